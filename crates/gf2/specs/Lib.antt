@@ -1,0 +1,4 @@
+pub mod Polynomial
+pub mod Register
+pub mod Bits
+pub mod Generators

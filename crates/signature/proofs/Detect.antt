@@ -1,0 +1,70 @@
+-- What a signature detects: `gf2`'s theorems, said of the signature of octets. Octets xs are sent with their signature; es are the flips of the
+-- octets, and c those of the signature. Assumes nothing.
+use mathlib.Core.Path.{_≡_, refl, sym, ap, ap₂, _∙_}
+use mathlib.Core.Logic.{_↔_, Iff·trans}
+use mathlib.Core.Bool.{Bool}
+use mathlib.Core.List.{List, [], _∷_, _++_}
+use Prim.Native.Nat.{ℕ, _+_, _*_, _%_, _^_, _<_}
+use native.Mathlib.Omega.{arith}
+use lib.Bits.{bitXor, xor-lt}
+use lib.ListN.{length, length-append}
+use Rattle.gf2.specs.Polynomial.{_⊕_, Multiple, ones, Within}
+use Rattle.gf2.specs.Register.{register, Flips, Passes}
+use Rattle.gf2.specs.Bits.{bits, octetBits}
+use Rattle.gf2.specs.Generators.{EndsInOne, EvenOnes}
+use Rattle.gf2.proofs.Sum.{sum-append}
+use Rattle.gf2.proofs.Bits.{bits-length, bits-xor, bits-injective}
+use Rattle.gf2.proofs.Product.{multiple-even, multiple-burst}
+use Rattle.gf2.proofs.Detect as bitwise
+use Rattle.signature.specs.Signature.{signature, flipped}
+use Rattle.signature.proofs.Bridge.{signature-bits, signature-lt}
+
+pub octetBits-length : (xs : List ℕ) → length (octetBits xs) ≡ length xs * 8
+octetBits-length [] = refl
+octetBits-length (x ∷ xs) = length-append (bits 8 x) (octetBits xs) ∙ omega (arith, octetBits-length xs, bits-length 8 x)
+
+pub octetBits-flipped : (xs es : List ℕ) → length es ≡ length xs → octetBits (flipped xs es) ≡ octetBits xs ⊕ octetBits es
+octetBits-flipped [] [] h = refl
+octetBits-flipped [] (e ∷ es) h = absurd (omega arith)
+octetBits-flipped (x ∷ xs) [] h = absurd (omega arith)
+octetBits-flipped (x ∷ xs) (e ∷ es) h =
+    ap₂ _++_ (bits-xor 8 x e) (octetBits-flipped xs es (omega arith))
+    ∙ sum-append (bits 8 x) (bits 8 e) (octetBits xs) (octetBits es) (bits-length 8 x ∙ sym (bits-length 8 e))
+
+module _ (w g seed : ℕ) (xs es : List ℕ) (c : ℕ) (hg : g < 2 ^ w) (hs : seed < 2 ^ w) (hc : c < 2 ^ w) (l : length es ≡ length xs) where
+  abbrev arrives : Type 0
+  arrives = signature w g seed (flipped xs es) ≡ bitXor (signature w g seed xs) c
+
+  flips : Flips (bits w g) (bits w seed) (octetBits xs) (octetBits es) (bits w c)
+  flips = record {
+    in-seed = bits-length w seed ∙ sym (bits-length w g);
+    in-message = omega (arith, octetBits-length xs, octetBits-length es);
+    in-register = bits-length w c ∙ sym (bits-length w g);
+  }
+
+  as-bits : arrives ↔ Passes (bits w g) (bits w seed) (octetBits xs) (octetBits es) (bits w c)
+  as-bits = (λ p. sym left ∙ ap (bits w) p ∙ right, λ p. bits-injective w fits-left fits-right (left ∙ p ∙ sym right))
+    where
+      left : bits w (signature w g seed (flipped xs es)) ≡ register (bits w g) (bits w seed) (octetBits xs ⊕ octetBits es)
+      left = signature-bits w g seed (flipped xs es) ∙ ap (register (bits w g) (bits w seed)) (octetBits-flipped xs es l)
+
+      right : bits w (bitXor (signature w g seed xs) c) ≡ register (bits w g) (bits w seed) (octetBits xs) ⊕ bits w c
+      right = bits-xor w (signature w g seed xs) c ∙ ap (λ (s : List Bool). s ⊕ bits w c) (signature-bits w g seed xs)
+
+      fits-left : signature w g seed (flipped xs es) < 2 ^ w
+      fits-left = signature-lt w g hg (flipped xs es) hs
+
+      fits-right : bitXor (signature w g seed xs) c < 2 ^ w
+      fits-right = xor-lt w (signature w g seed xs) c (signature-lt w g hg xs hs) hc
+
+  -- What arrives passes exactly where the flips, the signature's lowest, are a multiple of the generator.
+  pub detects : arrives ↔ Multiple (bits w g) (octetBits es ++ bits w c)
+  detects = Iff·trans as-bits (bitwise.detects flips)
+
+  -- Flips within w neighbouring bits pass only if there are none.
+  pub burst-detected : EndsInOne (bits w g) → (i : ℕ) → Within i w (octetBits es ++ bits w c) → arrives → ones (octetBits es ++ bits w c) ≡ 0
+  burst-detected h i within p = multiple-burst (bits w g) h i (rw bits-length within) (detects .0 p)
+
+  -- An odd number of flips never passes.
+  pub odd-detected : EvenOnes (bits w g) → ones (octetBits es ++ bits w c) % 2 ≡ 1 → arrives → ⊥
+  odd-detected h o p = omega (arith, multiple-even (bits w g) h (detects .0 p))

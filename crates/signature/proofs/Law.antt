@@ -1,0 +1,100 @@
+-- Signing by a table is signing by bits, at every width, generator and number of index bits. Assumes nothing.
+use mathlib.Core.Path.{_≡_, refl, sym, ap, ap₂, _∙_}
+use mathlib.Core.Bool.{Bool}
+use mathlib.Core.List.{List, [], _∷_, _++_}
+use Prim.Native.Nat.{ℕ, zero, suc, _+_, _-_, _*_, _/_, _%_, _^_, _<_, _≤_}
+use native.Mathlib.Nat.{mod-lt, zero-add, add-comm}
+use native.Mathlib.Numerals.{add-one}
+use native.Mathlib.Omega.{arith}
+use lib.Bits.{bitXor, xor-lt}
+use lib.ListN.{length, getD, take, drop, drop-of-length-le}
+use lib.Pow.{pow-pos}
+use lib.Seq.{drop-cons, take-at, drop-at}
+use Rattle.gf2.specs.Polynomial.{_⊕_, zeros}
+use Rattle.gf2.specs.Register.{register}
+use Rattle.gf2.specs.Bits.{bits}
+use Rattle.gf2.proofs.Bits.{bits-length, bits-xor, bits-zero, bits-mod, bits-parts, bits-moved, bits-injective}
+use Rattle.gf2.proofs.Table.{by-table}
+use Rattle.signature.specs.Signature.{shiftInAll, octet, signature}
+use Rattle.signature.specs.Lookup.{division, Table, lookUp, byTable}
+use Rattle.signature.proofs.Bridge.{shiftInAll-bits, shiftInAll-lt, octet-lt}
+
+module _ (w g n k : ℕ) (wide : w ≡ n + k) (hg : g < 2 ^ w) where
+  -- the register's bits: those that the step looks at, and the rest, which moves left
+  module _ (r : ℕ) where
+    parts : bits w r ≡ bits n (r / 2 ^ k) ++ bits k r
+    parts = ap (λ (m : ℕ). bits m r) wide ∙ bits-parts n k r
+
+    first : take n (bits w r) ≡ bits n (r / 2 ^ k)
+    first = ap (take n) parts ∙ take-at (bits n (r / 2 ^ k)) (bits k r) n (bits-length n (r / 2 ^ k))
+
+    rest : drop n (bits w r) ≡ bits k r
+    rest = ap (drop n) parts ∙ drop-at (bits n (r / 2 ^ k)) (bits k r) n (bits-length n (r / 2 ^ k))
+
+    moved : bits w (r * 2 ^ n % 2 ^ w) ≡ bits k r ++ zeros n
+    moved = rw zero-add at (bits-mod 0 w (r * 2 ^ n)) ∙ ap (λ (m : ℕ). bits m (r * 2 ^ n)) (wide ∙ add-comm n k) ∙ bits-moved k n r
+
+  index : (a x : ℕ) → bits n (bitXor a x % 2 ^ n) ≡ bits n a ⊕ bits n x
+  index a x = rw zero-add at (bits-mod 0 n (bitXor a x)) ∙ bits-xor n a x
+
+  division-bits : (i : ℕ) → bits w (division w g n i) ≡ register (bits w g) (zeros (length (bits w g))) (bits n i)
+  unfolding division
+  division-bits i =
+      shiftInAll-bits w g 0 (bits n i)
+      ∙ ap (λ (s : List Bool). register (bits w g) s (bits n i)) (bits-zero w ∙ ap zeros (sym (bits-length w g)))
+
+  -- n turns of the loop are one look-up
+  step-bits : (r x : ℕ)
+      → bits w (shiftInAll w g r (bits n x)) ≡ bits w (bitXor (division w g n (bitXor (r / 2 ^ k) x % 2 ^ n)) (r * 2 ^ n % 2 ^ w))
+  step-bits r x =
+      let i = bitXor (r / 2 ^ k) x % 2 ^ n in
+      let l : n ≤ length (bits w g) = omega (arith, bits-length w g) in
+      let t : register (bits w g) (bits w r) (bits n x) ≡ register (bits w g) (zeros (length (bits w g))) (take n (bits w r) ⊕ bits n x) ⊕ (drop n (bits w r) ++ zeros n)
+      = by-table (bits w g) n (bits w r) (bits n x) l (bits-length w r ∙ sym (bits-length w g)) (bits-length n x) in
+      cc (
+        shiftInAll-bits w g r (bits n x),
+        t,
+        first r,
+        rest r,
+        index (r / 2 ^ k) x,
+        division-bits i,
+        moved r,
+        bits-xor w (division w g n i) (r * 2 ^ n % 2 ^ w),
+      )
+
+  pub look : {table : List ℕ} (r x : ℕ) → Table w g n table → shiftInAll w g r (bits n x) < 2 ^ w
+      → lookUp w n table r x ≡ shiftInAll w g r (bits n x)
+  unfolding division
+  look r x t fits =
+      let i = bitXor (r / 2 ^ k) x % 2 ^ n in
+      let e : w - n ≡ k = omega arith in
+      let d : division w g n i < 2 ^ w = shiftInAll-lt w g hg (bits n i) (pow-pos w) in
+      rw (e, t .entry i (mod-lt (bitXor (r / 2 ^ k) x) (pow-pos n)))
+      (sym (bits-injective w fits (xor-lt w (division w g n i) (r * 2 ^ n % 2 ^ w) d (mod-lt (r * 2 ^ n) (pow-pos w))) (step-bits r x)))
+
+module _ (w g k : ℕ) (wide : w ≡ 8 + k) (hg : g < 2 ^ w) {table : List ℕ} (t : Table w g 8 table) where
+  pub look-octet : (r x : ℕ) → lookUp w 8 table r x ≡ octet w g r x
+  unfolding octet
+  look-octet r x = look w g 8 k wide hg r x t (octet-lt w g hg r x)
+
+  pub look-all : (r : ℕ) (xs : List ℕ) → byTable w table r xs ≡ signature w g r xs
+  unfolding byTable signature
+  look-all r [] = refl
+  look-all r (x ∷ xs) = ap (λ (s : ℕ). byTable w table s xs) (look-octet r x) ∙ look-all (octet w g r x) xs
+
+-- A loop over the octets of s, at the register r before the octet i: what is left from r leads where all leads from the seed.
+pub record Left (w : ℕ) (table : List ℕ) (seed : ℕ) (s : List ℕ) (r i : ℕ) : Type 0 where
+  pub within : i ≤ length s
+  pub rest : byTable w table r (drop i s) ≡ byTable w table seed s
+
+module _ {w : ℕ} {table : List ℕ} {seed : ℕ} {s : List ℕ} where
+  pub start : Left w table seed s seed 0
+  start = record { within = omega arith; rest = refl }
+
+  pub again : {r i r′ : ℕ} → Left w table seed s r i → i < length s → r′ ≡ lookUp w 8 table r (getD s i 0) → Left w table seed s r′ (i + 1)
+  unfolding byTable
+  again {r} {i} inv h e = record { within = omega arith; rest = rw (e, add-one) (rw (drop-cons s i 0) at (inv .rest)) }
+
+  pub done : {r i : ℕ} → Left w table seed s r i → length s ≤ i → r ≡ byTable w table seed s
+  unfolding byTable
+  done {r} {i} inv h = rw (drop-of-length-le s h) at (inv .rest)

@@ -1,0 +1,4 @@
+pub mod Bridge
+pub mod Table
+pub mod Law
+pub mod Detect

@@ -1,0 +1,16 @@
+-- `signature::long::signature32` meets its contract: look-ups in the right table. Assumes nothing.
+use mathlib.Core.Path.{refl, _∙_}
+use borrow.Author.Needs.{needs}
+use lib.Dec.{lit<}
+use Rattle.gf2.specs.Generators.{generator32}
+use Rattle.signature.proofs.Law.{look-all}
+use Rattle.signature.proofs.long.signature32.Statement.{statement}
+use Rattle.signature.proofs.long.signature32.Tie as tie
+
+returns : tie.Need-returns
+returns c =
+    let args = c .before .before .before .before .args in
+    c .signature32-by .ensures ∙ look-all 32 generator32 24 refl (lit< tt) (c .before .before .table32 .ensures) (args .seed) (args .octets .now)
+
+pub signature32-spec : {M : Type 1} → statement M
+signature32-spec = tie.close (tie.spec (λ c κs. search needs) (λ c κs. search needs) returns)

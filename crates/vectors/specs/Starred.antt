@@ -1,0 +1,24 @@
+-- Document 01, "Numbers to try": the cases marked (*), as one table. Assumes nothing.
+use mathlib.Core.Path.{_≡_}
+use mathlib.Core.List.{List, [], _∷_, map}
+use Prim.Native.Nat.{ℕ}
+use Rattle.gf2.specs.Generators.{generator16, generator32}
+use Rattle.signature.specs.Lookup.{division}
+
+-- what our definitions give, and what the paper says
+unfoldable pub rows : List (ℕ × ℕ)
+rows =
+    -- short table: entry 0 is 0, 1 is 0x4EAB, 2 is 0x9D56, 3 is 0xD3FD, 4 is 0x7407
+    (division 16 generator16 8 0, 0)
+    ∷ (division 16 generator16 8 1, 0x4EAB)
+    ∷ (division 16 generator16 8 2, 0x9D56)
+    ∷ (division 16 generator16 8 3, 0xD3FD)
+    ∷ (division 16 generator16 8 4, 0x7407)
+    -- long table: entry 1 is 0xF4ACFB13, entry 2 is 0x1DF50D35
+    ∷ (division 32 generator32 8 1, 0xF4ACFB13)
+    ∷ (division 32 generator32 8 2, 0x1DF50D35)
+    ∷ []
+
+-- the claim: in every row the two are equal
+abbrev pub Agree : List (ℕ × ℕ) → Type 0
+Agree table = map (λ row. row .0) table ≡ map (λ row. row .1) table

@@ -1,0 +1,28 @@
+// Lines of text on standard output.
+use libc::STDOUT_FILENO;
+
+pub(crate) fn text(s: &[u8]) {
+    io::write_all(STDOUT_FILENO, s);
+}
+
+pub(crate) fn decimal(n: u64) {
+    io::print_decimal(STDOUT_FILENO, n);
+}
+
+pub(crate) fn hex(n: u64, digits: usize) {
+    io::print_hex(STDOUT_FILENO, n, digits);
+}
+
+// A number as we compute it, beside the number that it should be.
+pub(crate) fn compared(name: &[u8], ours: u64, paper: u64) {
+    text(name);
+    text(b": ");
+    decimal(ours);
+    if ours == paper {
+        text(b"\n");
+    } else {
+        text(b" DIFFERS from ");
+        decimal(paper);
+        text(b"\n");
+    }
+}

@@ -1,0 +1,333 @@
+// The library's signatures (000 Annex D) against long division, over many inputs.
+// Argument: the seed of the random inputs, or none.
+
+mod comparisons;
+mod flips;
+mod library;
+mod model;
+mod random;
+
+use comparisons::{octets_text, Comparisons};
+use model::signature::{
+    add, bits_number, divides, number_bits, octet_bits, signature, Generator, LONG, SHORT,
+};
+use random::Random;
+
+type Table = [u32; 256];
+
+/// The library's functions of one width. Numbers are widened to 32 bits, so that each test is
+/// written once for both widths.
+struct Width {
+    generator: Generator,
+    /// The table between two entries that the library must leave alone. Each of the 258 entries
+    /// holds the given number before the library fills the table.
+    guarded_table: fn(u32) -> [u32; 258],
+    step: fn(u32, u8) -> u32,
+    plain: fn(u32, &[u8]) -> u32,
+    lent: fn(&Table, u32, &[u8]) -> u32,
+}
+
+const WIDTHS: [Width; 2] = [
+    Width {
+        generator: SHORT,
+        guarded_table: guarded_table16,
+        step: |register, octet| library::step16(register as u16, octet).into(),
+        plain: |seed, octets| library::signature16(seed as u16, octets).into(),
+        lent: |table, seed, octets| {
+            let table = table.map(|entry| entry as u16);
+            library::signature16_by(&table, seed as u16, octets).into()
+        },
+    },
+    Width {
+        generator: LONG,
+        guarded_table: guarded_table32,
+        step: library::step32,
+        plain: library::signature32,
+        lent: library::signature32_by,
+    },
+];
+
+fn guarded_table16(before: u32) -> [u32; 258] {
+    let mut entries = [before as u16; 258];
+    library::table16((&mut entries[1..257]).try_into().unwrap());
+    entries.map(u32::from)
+}
+
+fn guarded_table32(before: u32) -> [u32; 258] {
+    let mut entries = [before; 258];
+    library::table32((&mut entries[1..257]).try_into().unwrap());
+    entries
+}
+
+impl Width {
+    fn bits(&self) -> usize {
+        self.generator.width
+    }
+
+    fn ones(&self) -> u32 {
+        u32::MAX >> (32 - self.bits())
+    }
+
+    fn register(&self, random: &mut Random) -> u32 {
+        random.number() as u32 & self.ones()
+    }
+
+    fn seeds(&self, random: &mut Random) -> [u32; 4] {
+        [0, 1, self.ones(), self.register(random)]
+    }
+
+    fn table(&self) -> Table {
+        (self.guarded_table)(0)[1..257].try_into().unwrap()
+    }
+
+    fn wrong_table(&self, random: &mut Random) -> Table {
+        std::array::from_fn(|_| self.register(random))
+    }
+}
+
+/// 000 Figures D.4 and D.6, over any table.
+fn by_lookup(width: &Width, table: &Table, seed: u32, octets: &[u8]) -> u32 {
+    let mut register = seed;
+    for &octet in octets {
+        let index = (register >> (width.bits() - 8) ^ u32::from(octet)) & 0xff;
+        register = table[index as usize] ^ (register << 8 & width.ones());
+    }
+    register
+}
+
+/// 000 Figure D.3.
+fn by_shifts(mut register: u16, mut octet: u8) -> u16 {
+    for _ in 0..8 {
+        if (register & 0x8000 != 0) != (octet & 0x80 != 0) {
+            register = register << 1 ^ 0x4EAB;
+        } else {
+            register <<= 1;
+        }
+        octet <<= 1;
+    }
+    register
+}
+
+/// Width, seed, octets, signature.
+const KNOWN: [(usize, u32, &[u8], u32); 5] = [
+    (16, 0, b"123456789", 52901),
+    (16, 1, b"123456789", 42332),
+    (32, 0, b"123456789", 1822393512),
+    (32, 1, b"123456789", 2278983927),
+    // 000 Figure A.1
+    (16, 0, &[0x01, 0x07, 0x0D, 0x02, 0x01, 0x00, 0x03, 0x00, 0x00, 0x00, 0x00], 0x0952),
+];
+
+struct Message {
+    octets: Vec<u8>,
+    signature: u32,
+}
+
+impl Message {
+    fn flipped(&self, flips: &[bool], width: usize) -> Message {
+        let mut bits = octet_bits(&self.octets);
+        bits.extend(number_bits(self.signature, width));
+        add(&mut bits, flips);
+        let signature = bits_number(&bits.split_off(bits.len() - width));
+        let octets = bits.chunks(8).map(|octet| bits_number(octet) as u8).collect();
+        Message { octets, signature }
+    }
+
+    fn text(&self) -> String {
+        format!("{}, signature {:#x}", octets_text(&self.octets), self.signature)
+    }
+}
+
+/// The tests of one width.
+struct Test<'a> {
+    width: &'a Width,
+    table: Table,
+    comparisons: &'a mut Comparisons,
+    random: &'a mut Random,
+}
+
+impl Test<'_> {
+    fn run(&mut self) {
+        self.known_signatures();
+        self.table_entries();
+        self.steps();
+        self.all_lengths();
+        self.long_slices();
+        self.wrong_tables();
+        self.parts_of_buffers();
+        self.flipped_messages();
+    }
+
+    /// These hold the model to the specification as well as the library.
+    fn known_signatures(&mut self) {
+        let generator = self.width.generator;
+        for &(width, seed, octets, expected) in &KNOWN {
+            if width == generator.width {
+                self.comparisons.compare(expected, signature(generator, seed, octets), || {
+                    format!("model, {width} bits, seed {seed}, {}", octets_text(octets))
+                });
+                self.both_forms(expected, seed, octets);
+            }
+        }
+    }
+
+    /// An entry is the signature of its index (000 D.3.3, D.3.5).
+    fn table_entries(&mut self) {
+        let bits = self.width.bits();
+        for before in [0, self.width.ones()] {
+            let guarded = (self.width.guarded_table)(before);
+            for place in [0, 257] {
+                self.comparisons.compare(before, guarded[place], || {
+                    format!("guard at {place} of the table, {bits} bits")
+                });
+            }
+            for octet in 0..=u8::MAX {
+                let expected = signature(self.width.generator, 0, &[octet]);
+                let found = guarded[1 + usize::from(octet)];
+                self.comparisons.compare(expected, found, || {
+                    format!("table entry {octet}, {bits} bits, before {before:#x}")
+                });
+            }
+        }
+    }
+
+    fn steps(&mut self) {
+        let single_bits = (0..self.width.bits()).map(|power| 1 << power);
+        let mut registers: Vec<u32> = single_bits.chain([0, self.width.ones()]).collect();
+        registers.extend((0..300).map(|_| self.width.register(self.random)));
+        for register in registers {
+            for octet in 0..=u8::MAX {
+                let expected = signature(self.width.generator, register, &[octet]);
+                let found = (self.width.step)(register, octet);
+                self.comparisons.compare(expected, found, || {
+                    format!("step, {} bits, {register:#x}, octet {octet:#x}", self.width.bits())
+                });
+            }
+        }
+    }
+
+    fn all_lengths(&mut self) {
+        for length in 0..=300 {
+            self.each_seed(&vec![0x00; length]);
+            self.each_seed(&vec![0xFF; length]);
+            for _ in 0..30 {
+                let octets = self.random.octets(length);
+                self.each_seed(&octets);
+            }
+        }
+    }
+
+    fn long_slices(&mut self) {
+        for length in [1000, 4095, 4096, 4097, 65535, 65536, 65537] {
+            let octets = self.random.octets(length);
+            self.each_seed(&octets);
+        }
+    }
+
+    fn each_seed(&mut self, octets: &[u8]) {
+        for seed in self.width.seeds(self.random) {
+            self.both_forms(signature(self.width.generator, seed, octets), seed, octets);
+        }
+    }
+
+    fn both_forms(&mut self, expected: u32, seed: u32, octets: &[u8]) {
+        let bits = self.width.bits();
+        let plain = (self.width.plain)(seed, octets);
+        self.comparisons.compare(expected, plain, || {
+            format!("plain signature, {bits} bits, seed {seed:#x}, {}", octets_text(octets))
+        });
+        let lent = (self.width.lent)(&self.table, seed, octets);
+        self.comparisons.compare(expected, lent, || {
+            format!("signature by lent table, {bits} bits, seed {seed:#x}, {}", octets_text(octets))
+        });
+    }
+
+    /// The lent form answers for any table, so it is held to the lookup and not to the division.
+    fn wrong_tables(&mut self) {
+        let bits = self.width.bits();
+        for length in 0..=300 {
+            let table = self.width.wrong_table(self.random);
+            let octets = self.random.octets(length);
+            for seed in self.width.seeds(self.random) {
+                let expected = by_lookup(self.width, &table, seed, &octets);
+                let found = (self.width.lent)(&table, seed, &octets);
+                self.comparisons.compare(expected, found, || {
+                    let octets = octets_text(&octets);
+                    format!("wrong table {table:x?}, {bits} bits, seed {seed:#x}, {octets}")
+                });
+            }
+        }
+    }
+
+    /// Slices that start at each address modulo 16. What stands around a slice changes nothing.
+    fn parts_of_buffers(&mut self) {
+        for start in 0..16 {
+            for length in 0..=70 {
+                let end = start + length;
+                let mut buffer = self.random.octets(end + 16);
+                let seed = self.width.register(self.random);
+                let expected = signature(self.width.generator, seed, &buffer[start..end]);
+                self.both_forms(expected, seed, &buffer[start..end]);
+                for place in (0..start).chain(end..end + 16) {
+                    buffer[place] = !buffer[place];
+                }
+                self.both_forms(expected, seed, &buffer[start..end]);
+            }
+        }
+    }
+
+    fn flipped_messages(&mut self) {
+        for kind in &flips::KINDS {
+            for _ in 0..10_000 {
+                self.flipped_message(kind);
+            }
+        }
+    }
+
+    /// A message passes after flips exactly where the generator divides the flips.
+    fn flipped_message(&mut self, kind: &flips::Kind) {
+        let generator = self.width.generator;
+        let length = 1 + self.random.below(32);
+        let octets = self.random.octets(length);
+        let seed = self.width.seeds(self.random)[self.random.below(4)];
+        let message = Message { signature: signature(generator, seed, &octets), octets };
+        let flips = (kind.choose)(self.random, generator, length * 8 + generator.width);
+        let flipped = message.flipped(&flips, generator.width);
+
+        let expected = divides(generator, &flips);
+        let plain = (self.width.plain)(seed, &flipped.octets) == flipped.signature;
+        let lent = (self.width.lent)(&self.table, seed, &flipped.octets) == flipped.signature;
+        let inputs = || {
+            let (name, bits) = (kind.name, generator.width);
+            let (before, after) = (message.text(), flipped.text());
+            format!("passes after {name}, {bits} bits, seed {seed:#x}, {before}, now {after}")
+        };
+        self.comparisons.compare(expected, plain, || format!("plain, {}", inputs()));
+        self.comparisons.compare(expected, lent, || format!("lent, {}", inputs()));
+        if let Some(known) = kind.passes {
+            self.comparisons.compare(known, plain, || format!("known, {}", inputs()));
+        }
+    }
+}
+
+fn every_short_step(comparisons: &mut Comparisons) {
+    for register in 0..=u16::MAX {
+        for octet in 0..=u8::MAX {
+            let expected = by_shifts(register, octet);
+            comparisons.compare(expected, library::step16(register, octet), || {
+                format!("step, 16 bits, {register:#x}, octet {octet:#x}")
+            });
+        }
+    }
+}
+
+fn main() {
+    let mut comparisons = Comparisons::new("signature");
+    let mut random = Random::from_arguments("signature");
+    for width in &WIDTHS {
+        let table = width.table();
+        Test { width, table, comparisons: &mut comparisons, random: &mut random }.run();
+    }
+    every_short_step(&mut comparisons);
+    comparisons.finish();
+}

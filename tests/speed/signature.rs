@@ -1,0 +1,125 @@
+// The time of the library's signatures as a ratio to that of the usual C loop, on the same input in
+// one run.
+
+#[path = "../library.rs"]
+mod library;
+#[path = "../random.rs"]
+mod random;
+
+use random::Random;
+use std::time::Instant;
+
+// 000 11.4.7: the seed of the cyclic exchange.
+const SEED: u8 = 1;
+
+const LOADS: [Load; 3] = [
+    Load { octets: 7, messages: 64, passes: 32, rounds: 4000 },
+    Load { octets: 32, messages: 64, passes: 8, rounds: 4000 },
+    Load { octets: 65536, messages: 8, passes: 1, rounds: 100 },
+];
+
+extern "C" {
+    fn reference_signature16(seed: u16, octets: *const u8, length: usize) -> u16;
+    fn reference_signature32(seed: u32, octets: *const u8, length: usize) -> u32;
+}
+
+fn reference16(octets: &[u8]) -> u32 {
+    unsafe { reference_signature16(SEED.into(), octets.as_ptr(), octets.len()).into() }
+}
+
+fn reference32(octets: &[u8]) -> u32 {
+    unsafe { reference_signature32(SEED.into(), octets.as_ptr(), octets.len()) }
+}
+
+/// What one batch signs, and how many batches are timed.
+struct Load {
+    /// The length of a message.
+    octets: usize,
+    messages: usize,
+    passes: usize,
+    rounds: usize,
+}
+
+/// Times in nanoseconds for a call.
+struct Times {
+    reference: f64,
+    lent: f64,
+    plain: f64,
+}
+
+/// The least time of each form over all rounds: whatever else the machine does can only add to it.
+fn measure(
+    load: &Load,
+    random: &mut Random,
+    reference: impl Fn(&[u8]) -> u32,
+    lent: impl Fn(&[u8]) -> u32,
+    plain: impl Fn(&[u8]) -> u32,
+) -> Times {
+    let messages = random.octets(load.messages * load.octets);
+    let mut least = Times { reference: f64::MAX, lent: f64::MAX, plain: f64::MAX };
+    for _ in 0..load.rounds {
+        let expected = time_batch(load, &messages, &mut least.reference, &reference);
+        let by_lent_table = time_batch(load, &messages, &mut least.lent, &lent);
+        let by_plain_form = time_batch(load, &messages, &mut least.plain, &plain);
+        if by_lent_table != expected || by_plain_form != expected {
+            println!("speed: the signatures of {} octets differ from C's", load.octets);
+            std::process::exit(1);
+        }
+    }
+    least
+}
+
+/// Signs every message, lowers `least` to the time of a call, and answers the sum of the signatures.
+fn time_batch(
+    load: &Load,
+    messages: &[u8],
+    least: &mut f64,
+    signature: impl Fn(&[u8]) -> u32,
+) -> u32 {
+    let mut sum = 0u32;
+    let start = Instant::now();
+    for _ in 0..load.passes {
+        for message in messages.chunks_exact(load.octets) {
+            sum = sum.wrapping_mul(3).wrapping_add(signature(message));
+        }
+    }
+    let calls = (load.passes * load.messages) as f64;
+    *least = least.min(start.elapsed().as_nanos() as f64 / calls);
+    sum
+}
+
+fn print_rows(octets: usize, width: usize, times: &Times) {
+    for (form, time) in [("lent", times.lent), ("plain", times.plain)] {
+        let reference = times.reference;
+        let ratio = time / reference;
+        println!("{octets:>6} {width:>6}  {form:<6} {ratio:>10.2} {time:>10.1} {reference:>10.1}");
+    }
+}
+
+fn main() {
+    let mut random = Random::from_arguments("speed");
+    let mut table16 = [0; 256];
+    let mut table32 = [0; 256];
+    library::table16(&mut table16);
+    library::table32(&mut table32);
+
+    println!("octets  width  form   ratio to C    ns ours       ns C");
+    for load in &LOADS {
+        let short = measure(
+            load,
+            &mut random,
+            reference16,
+            |octets| library::signature16_by(&table16, SEED.into(), octets).into(),
+            |octets| library::signature16(SEED.into(), octets).into(),
+        );
+        print_rows(load.octets, 16, &short);
+        let long = measure(
+            load,
+            &mut random,
+            reference32,
+            |octets| library::signature32_by(&table32, SEED.into(), octets),
+            |octets| library::signature32(SEED.into(), octets),
+        );
+        print_rows(load.octets, 32, &long);
+    }
+}
