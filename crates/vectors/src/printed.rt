@@ -1,7 +1,7 @@
 // 000's lookup tables as they are printed there, misprint included (docs/DECISIONS.md, R6).
 
 // 000 Table D.4.
-pub const TABLE_D4: [u16; 256] = [
+pub const TABLE_D4: [u32; 256] = [
     0x0000,
     0x4EAB,
     0x9D56,

@@ -29,58 +29,35 @@ fn entries(name: &[u8], differ: u64) {
     text(b" differ\n");
 }
 
-fn wide16(x: u16) -> u64 {
+// An entry's division: the octet into an empty register.
+fn division(width: u32, x: u8) -> u64 {
+    if width == 16 {
+        signature::step16(0, x) as u64
+    } else {
+        signature::step32(0, x) as u64
+    }
+}
+
+fn wide(x: u32) -> u64 {
     x as u64
 }
 
-fn entry16(table: &[u16; 256], i: usize) -> u64 {
-    if i < 256 { wide16(table[i]) } else { 0 }
-}
-
-fn table_d4() {
-    let printed = TABLE_D4;
-    let ours = signature::table16();
+fn table(name: &[u8], printed: &[u32; 256], width: u32, digits: usize) {
     let mut differ: u64 = 0;
     let mut i = 0;
     while i < 256 {
-        let more = misprint(
-            b"000 Table D.4",
-            i,
-            entry16(&printed, i),
-            entry16(&ours, i),
-            4,
-        );
+        let more = misprint(name, i, wide(printed[i]), division(width, i as u8), digits);
         differ = std::num::wrapping_add_u64(differ, more);
         i += 1;
     }
-    entries(b"000 Table D.4", differ);
+    entries(name, differ);
 }
 
-fn wide32(x: u32) -> u64 {
-    x as u64
-}
-
-fn entry32(table: &[u32; 256], i: usize) -> u64 {
-    if i < 256 { wide32(table[i]) } else { 0 }
-}
-
-fn table_d7() {
-    let printed = TABLE_D7;
-    let ours = signature::table32();
-    let mut differ: u64 = 0;
-    let mut i = 0;
-    while i < 256 {
-        let more = misprint(
-            b"000 Table D.7",
-            i,
-            entry32(&printed, i),
-            entry32(&ours, i),
-            8,
-        );
-        differ = std::num::wrapping_add_u64(differ, more);
-        i += 1;
-    }
-    entries(b"000 Table D.7", differ);
+fn tables() {
+    let table_d4 = TABLE_D4;
+    let table_d7 = TABLE_D7;
+    table(b"000 Table D.4", &table_d4, 16, 4);
+    table(b"000 Table D.7", &table_d7, 32, 8);
 }
 
 // 000 Figure A.1: the octets of an instance of Table A.4, and its FSP_IO_StructCRC.
@@ -133,8 +110,7 @@ fn nothing() {
 }
 
 pub(crate) fn run() {
-    table_d4();
-    table_d7();
+    tables();
     figure_a1();
     digits();
     nothing();
