@@ -1,0 +1,5 @@
+pub mod Octets
+pub mod Table22
+pub mod Ranges
+pub mod Rules
+pub mod Verdicts
