@@ -3,3 +3,4 @@ pub mod Table22
 pub mod Ranges
 pub mod Rules
 pub mod Verdicts
+pub mod Accepted

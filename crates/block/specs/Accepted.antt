@@ -1,0 +1,54 @@
+-- What the theorems on the verdict speak of: which rule is the first that is broken, and what parameters that are taken satisfy.
+-- Assumes nothing.
+use Prim.Native.Nat.{ℕ, _+_, _-_, _*_, _≤_, _<_, zero, suc}
+use mathlib.Core.Path.{_≡_}
+use mathlib.Core.Logic.{_⊎_}
+use mathlib.Core.Bool.{Bool, true, false}
+use mathlib.Core.List.{List, [], _∷_}
+use lib.ListN.{length}
+use Rattle.answer.specs.declared.Answer.{Answer}
+use Rattle.answer.specs.declared.Answer.the-variants as answers
+use Rattle.block.specs.declared.Params.{Params}
+use Rattle.block.specs.Ranges.{safetyOctets, mostProcessOctets}
+use Rattle.block.specs.Rules.{Rule, rule}
+
+-- whether the rule at place i is broken, and its answer; past the end none is
+abbrev pub brokenAt : List Rule → ℕ → Bool
+brokenAt [] i = false
+brokenAt (rule b a ∷ rules) zero = b
+brokenAt (rule b a ∷ rules) (suc i) = brokenAt rules i
+
+abbrev pub answerAt : List Rule → ℕ → Answer
+answerAt [] i = answers.Taken
+answerAt (rule b a ∷ rules) zero = a
+answerAt (rule b a ∷ rules) (suc i) = answerAt rules i
+
+-- the rule at place i is broken, and none before it
+pub record First (rules : List Rule) (i : ℕ) : Type 0 where
+  pub broken : brokenAt rules i ≡ true
+  pub earlier : (j : ℕ) → j < i → brokenAt rules j ≡ false
+
+-- no rule is broken
+pub record Kept (rules : List Rule) : Type 0 where
+  pub each : (j : ℕ) → brokenAt rules j ≡ false
+
+-- an SPDU's length beside other octets in the image
+pub record Fits (protMode other length : ℕ) : Type 0 where
+  pub least : 5 ≤ length
+  pub room : length + other ≤ 32
+  pub safety : safetyOctets protMode ≤ length
+  pub process : length - safetyOctets protMode ≤ mostProcessOctets protMode
+
+-- parameters that are taken, of a block addressed to a port
+pub record Accepted (port : ℕ) (p : Params) : Type 0 where
+  pub port-known : (1 ≤ port) × (port ≤ 8)
+  pub port-carried : p .«FSP_Port» ≡ port
+  pub mode : (p .PortMode ≡ 49) ⊎ (p .PortMode ≡ 50)
+  pub protocol-mode : (p .«FSP_ProtMode» ≡ 1) ⊎ (p .«FSP_ProtMode» ≡ 2)
+  pub watchdog : (1 ≤ p .«FSP_WatchdogTime») × (p .«FSP_WatchdogTime» ≤ 65535)
+  pub input : Fits (p .«FSP_ProtMode») (p .InputDataLength) (p .SPDUInLength)
+  pub output : Fits (p .«FSP_ProtMode») (p .OutputDataLength) (p .SPDUOutLength)
+  pub input-bits : p .TotalOfInBits ≤ 8 * p .TotalOfInOctets
+  pub output-bits : p .TotalOfOutBits ≤ 8 * p .TotalOfOutOctets
+  pub input-sum : p .SPDUInLength ≡ safetyOctets (p .«FSP_ProtMode») + p .TotalOfInOctets + 2 * p .TotalOfInInt16 + 4 * p .TotalOfInInt32
+  pub output-sum : p .SPDUOutLength ≡ safetyOctets (p .«FSP_ProtMode») + p .TotalOfOutOctets + 2 * p .TotalOfOutInt16 + 4 * p .TotalOfOutInt32
