@@ -1,5 +1,7 @@
 -- Document 01, "Answer numbers": the number of each answer, and the offset that is returned with it. Assumes nothing.
 use Prim.Native.Nat.{ℕ}
+use mathlib.Core.Bool.{Bool}
+use lib.Dec.{eqb}
 use Rattle.answer.specs.declared.Answer.{Answer}
 use Rattle.answer.specs.declared.Answer.the-variants.{
   Taken,
@@ -51,3 +53,6 @@ offsetOf SpduLength = 0
 offsetOf NoSamples = 0
 offsetOf PortMismatch = 0
 offsetOf Record = 0
+
+abbrev pub isTaken : Answer → Bool
+isTaken a = eqb (numberOf a) 0

@@ -1,6 +1,7 @@
-// Document 01's answer numbers.
+// Document 01's answer numbers, and how a call's rules lead to one.
 ghost use mathlib.Core.Path.{_≡_};
-ghost use Rattle.answer.specs.Answers.{numberOf, offsetOf};
+ghost use Rattle.answer.specs.Answers.{numberOf, offsetOf, isTaken};
+ghost use Rattle.answer.specs.Rules.{refused};
 
 // One case a number of document 01's table, in its order. A refusal that names a place in a parameter block holds its offset.
 pub enum Answer {
@@ -60,5 +61,22 @@ pub fn offset(answer: Answer) -> u8
         Answer::NoSamples => 0,
         Answer::PortMismatch => 0,
         Answer::Record => 0,
+    }
+}
+
+pub fn is_taken(answer: Answer) -> bool
+    ensures { λ r. ⌜ r ≡ isTaken answer ⌝ }
+{
+    number(answer) == 0
+}
+
+// One rule of a call: an earlier refusal stands; else a broken rule refuses.
+pub fn refuse(answer: Answer, broken: bool, refusal: Answer) -> Answer
+    ensures { λ r. ⌜ r ≡ refused answer broken refusal ⌝ }
+{
+    if is_taken(answer) & broken {
+        refusal
+    } else {
+        answer
     }
 }

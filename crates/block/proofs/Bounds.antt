@@ -9,12 +9,13 @@ use borrow.Author.Tests.{ltb-false, leb-true, leb-false, eqb-true, eqb-false, no
 use lib.ListN.{getD}
 use lib.Dec.{T, eqb, leb, ltb, leb→le, nleb→lt}
 use Rattle.block.specs.declared.Params.{Params}
-use Rattle.block.specs.declared.Verdict.the-variants.{Taken}
 use Rattle.block.specs.Table22.{paramsOf}
-use Rattle.block.specs.Ranges.{inside, outside, neither, safetyOctets, mostProcessOctets, lengthBroken}
+use Rattle.answer.specs.Answers.{isTaken}
+use Rattle.answer.specs.Rules.{Kept}
+use Rattle.ranges.specs.Fields.{inside, outside, neither, safetyOctets, mostProcessOctets, lengthBroken}
 use Rattle.block.specs.Rules.{rulesOn, judged}
-use Rattle.block.specs.Accepted.{Kept, Fits, Accepted}
-use Rattle.block.proofs.Exact.{taken-exactly}
+use Rattle.block.specs.Accepted.{Fits, Accepted}
+use Rattle.block.proofs.Answered.{taken, taken-params}
 
 -- ---- what a test that is false, or true, says
 or-false : (a b : Bool) → (a || b) ≡ false → (a ≡ false) × (b ≡ false)
@@ -80,14 +81,11 @@ mode-known m h e f =
     (λ v. let c : 96 < m = past 52 96 m (y .1) (omega (arith, nleb→lt m 51 v)) in absurd (omega (arith, past 97 255 m (x .1) (omega arith))))))
 
 -- ---- what is taken is within its bounds; s are octets
-pub accepted : (s : List ℕ) (port : ℕ) (p : Params) → ((i : ℕ) → getD s i 0 < 256) → judged s port ≡ Taken p → Accepted port p
-accepted s port p octets e = rw (found .0) bounds
+pub accepted : (s : List ℕ) (port : ℕ) → ((i : ℕ) → getD s i 0 < 256) → isTaken (judged s port .answer) ≡ true → Accepted port (judged s port .params)
+accepted s port octets e = rw (taken-params s port e) bounds
   where
-    found : (p ≡ paramsOf s) × Kept (rulesOn s port)
-    found = taken-exactly s port p .0 e
-
     kept : Kept (rulesOn s port)
-    kept = found .1
+    kept = taken s port .0 e
 
     q : Params
     q = paramsOf s

@@ -1,5 +1,3 @@
-pub mod Laws
-pub mod Modes
 pub mod Whole
-pub mod Exact
+pub mod Answered
 pub mod Bounds

@@ -1,36 +1,9 @@
--- What the theorems on the verdict speak of: which rule is the first that is broken, and what parameters that are taken satisfy.
--- Assumes nothing.
-use Prim.Native.Nat.{ℕ, _+_, _-_, _*_, _≤_, _<_, zero, suc}
+-- What parameters that are taken satisfy: what the layers above rest on. Assumes nothing.
+use Prim.Native.Nat.{ℕ, _+_, _-_, _*_, _≤_}
 use mathlib.Core.Path.{_≡_}
 use mathlib.Core.Logic.{_⊎_}
-use mathlib.Core.Bool.{Bool, true, false}
-use mathlib.Core.List.{List, [], _∷_}
-use lib.ListN.{length}
-use Rattle.answer.specs.declared.Answer.{Answer}
-use Rattle.answer.specs.declared.Answer.the-variants as answers
 use Rattle.block.specs.declared.Params.{Params}
-use Rattle.block.specs.Ranges.{safetyOctets, mostProcessOctets}
-use Rattle.block.specs.Rules.{Rule, rule}
-
--- whether the rule at place i is broken, and its answer; past the end none is
-abbrev pub brokenAt : List Rule → ℕ → Bool
-brokenAt [] i = false
-brokenAt (rule b a ∷ rules) zero = b
-brokenAt (rule b a ∷ rules) (suc i) = brokenAt rules i
-
-abbrev pub answerAt : List Rule → ℕ → Answer
-answerAt [] i = answers.Taken
-answerAt (rule b a ∷ rules) zero = a
-answerAt (rule b a ∷ rules) (suc i) = answerAt rules i
-
--- the rule at place i is broken, and none before it
-pub record First (rules : List Rule) (i : ℕ) : Type 0 where
-  pub broken : brokenAt rules i ≡ true
-  pub earlier : (j : ℕ) → j < i → brokenAt rules j ≡ false
-
--- no rule is broken
-pub record Kept (rules : List Rule) : Type 0 where
-  pub each : (j : ℕ) → brokenAt rules j ≡ false
+use Rattle.ranges.specs.Fields.{safetyOctets, mostProcessOctets}
 
 -- an SPDU's length beside other octets in the image
 pub record Fits (protMode other length : ℕ) : Type 0 where

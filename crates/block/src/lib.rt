@@ -1,14 +1,12 @@
 // The parameter block: the 48 octets of FSPortConfigList (000 Table 22), read, judged and turned into parameters.
 ghost use mathlib.Core.Path.{_≡_};
-ghost use Rattle.block.specs.Rules.{judged};
-ghost use Rattle.block.specs.Verdicts.{answerOf, noParams, paramsIn};
+ghost use Rattle.answer.specs.Rules.{answerBy};
+ghost use Rattle.block.specs.Rules.{idRules, fieldRules, agreementRules, noParams, judgedAs, judged};
 
 mod octets;
-mod ranges;
-mod rules;
 
 use answer::Answer;
-pub use ranges::safety_octets;
+use answer::refuse;
 
 // What a port needs later of an accepted block, under 000's names. InputDataLength is n, OutputDataLength p, SPDUInLength m,
 // SPDUOutLength o, FSP_WatchdogTime W.
@@ -56,40 +54,32 @@ pub struct Block {
     pub IO_DescVersion: u8,
 }
 
-pub enum Verdict {
-    Taken(Params),
-    Refused(Answer),
+// The answer, and the parameters of a block that is taken; of a refusal none.
+pub struct Judged {
+    pub answer: Answer,
+    pub params: Params,
 }
 
-// The verdict on octets of any length, addressed to any port.
-pub fn judge(octets: &[u8], port: u8) -> Verdict
+// Judges octets of any length, addressed to any port.
+pub fn judge(octets: &[u8], port: u8) -> Judged
     ensures { λ r. ⌜ r ≡ judged (now (octets .entry)) port ⌝ }
 {
     if ranges::outside(1, 8, port as u32) {
-        return Verdict::Refused(Answer::NoPort);
+        return Judged {
+            answer: Answer::NoPort,
+            params: no_params(),
+        };
     }
     if octets.len() != 48 {
-        return Verdict::Refused(Answer::BlockSize);
+        return Judged {
+            answer: Answer::BlockSize,
+            params: no_params(),
+        };
     }
-    let block = octets::block(octets);
+    let b = octets::block(octets);
     let right = octets::computed(octets);
-    let params = block.params;
-    let v = rules::id(Verdict::Taken(params), block);
-    let v = rules::mode(v, params.PortMode);
-    let v = rules::device(v, params);
-    let v = rules::protocol(v, params);
-    let v = rules::structure(v, block);
-    rules::agreement(v, block, right, port)
-}
-
-// The verdict's answer, TAKEN or the refusal.
-pub fn answer_of(v: Verdict) -> Answer
-    ensures { λ r. ⌜ r ≡ answerOf v ⌝ }
-{
-    match v {
-        Verdict::Taken(_) => Answer::Taken,
-        Verdict::Refused(answer) => answer,
-    }
+    let a = agreement(fields(id(b), b), b, right, port);
+    judged_as(a, b.params)
 }
 
 // The parameters of a port that has none: zeros.
@@ -125,12 +115,89 @@ pub fn no_params() -> Params
     }
 }
 
-// The parameters of a block that is taken; of a refusal none.
-pub fn params_of(v: Verdict) -> Params
-    ensures { λ r. ⌜ r ≡ paramsIn v ⌝ }
+fn id(b: Block) -> Answer
+    ensures { λ r. ⌜ r ≡ answerBy Answer.Taken (idRules b) ⌝ }
 {
-    match v {
-        Verdict::Taken(params) => params,
-        Verdict::Refused(_) => no_params(),
+    refuse(Answer::Taken, !(b.ArgBlockID == 0x8001), Answer::BlockId)
+}
+
+fn fields(a: Answer, b: Block) -> Answer
+    ensures { λ r. ⌜ r ≡ answerBy a (fieldRules b) ⌝ }
+{
+    let p = b.params;
+    let version = b.IO_DescVersion;
+    let a = ranges::port_mode(a, p.PortMode);
+    let a = ranges::device(
+        a,
+        p.ValidationBackup,
+        p.IQBehavior,
+        p.VendorID,
+        p.DeviceID,
+        p.InputDataLength,
+        p.OutputDataLength,
+    );
+    let a = ranges::protocol(
+        a,
+        p.FSP_Port,
+        p.FSP_ProtVersion,
+        p.FSP_ProtMode,
+        p.FSP_WatchdogTime,
+    );
+    let a = ranges::description(a, version);
+    let a = ranges::input(
+        a,
+        p.FSP_ProtMode,
+        p.InputDataLength,
+        p.SPDUInLength,
+        p.TotalOfInBits,
+        p.TotalOfInOctets,
+        p.TotalOfInInt16,
+        p.TotalOfInInt32,
+    );
+    ranges::output(
+        a,
+        p.FSP_ProtMode,
+        p.OutputDataLength,
+        p.SPDUOutLength,
+        p.TotalOfOutBits,
+        p.TotalOfOutOctets,
+        p.TotalOfOutInt16,
+        p.TotalOfOutInt32,
+    )
+}
+
+fn agreement(a: Answer, b: Block, right: Signatures, port: u8) -> Answer
+    ensures { λ r. ⌜ r ≡ answerBy a (agreementRules b right port) ⌝ }
+{
+    let p = b.params;
+    let found = b.signatures;
+    let a = refuse(a, !(p.FSP_Port == port), Answer::PortMismatch);
+    let a = refuse(
+        a,
+        !(found.FSP_AuthentCRC == right.FSP_AuthentCRC),
+        Answer::Signature(23),
+    );
+    let a = refuse(
+        a,
+        !(found.FSP_IO_StructCRC == right.FSP_IO_StructCRC),
+        Answer::Signature(29),
+    );
+    refuse(
+        a,
+        !(found.FSP_ProtParCRC == right.FSP_ProtParCRC),
+        Answer::Signature(35),
+    )
+}
+
+fn judged_as(answer: Answer, params: Params) -> Judged
+    ensures { λ r. ⌜ r ≡ judgedAs answer params ⌝ }
+{
+    if answer::is_taken(answer) {
+        Judged { answer, params }
+    } else {
+        Judged {
+            answer,
+            params: no_params(),
+        }
     }
 }

@@ -1,8 +1,7 @@
 -- Answers in numbers, for other languages. Assumes nothing.
 use Rattle.answer.specs.Answers.{numberOf, offsetOf}
-use Rattle.block.specs.declared.Verdict.{Verdict}
-use Rattle.block.specs.Verdicts.{answerOf, paramsIn}
+use Rattle.block.specs.declared.Judged.{Judged}
 use Rattle.export.specs.declared.blocks.BlockAnswer.{BlockAnswer}
 
-abbrev pub toldOf : Verdict → BlockAnswer
-toldOf v = record { number = numberOf (answerOf v); offset = offsetOf (answerOf v); params = paramsIn v }
+abbrev pub toldOf : Judged → BlockAnswer
+toldOf j = record { number = numberOf (j .answer); offset = offsetOf (j .answer); params = j .params }

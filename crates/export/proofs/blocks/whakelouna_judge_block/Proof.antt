@@ -4,15 +4,8 @@ use Rattle.export.proofs.blocks.whakelouna_judge_block.Statement.{state
 use Rattle.export.proofs.blocks.whakelouna_judge_block.Tie as tie
 
 returns : tie.Need-returns
-returns c = simp (c .params-of .ensures, c .before .offset .ensures, c .before .before .number .ensures, c .before .before .before .answer-of .ensures, c .before .before .before .before .judge .ensures)
+returns c = simp (c .offset .ensures, c .before .number .ensures, c .before .before .before .judge .ensures)
 
 pub whakelouna-judge-block-spec : {M : Type 1} → statement M
 whakelouna-judge-block-spec =
-    tie.close
-    (tie.spec
-    (λ c κs. search needs)
-    (λ c κs. search needs)
-    (λ c κs. search needs)
-    (λ c κs. search needs)
-    (λ c κs. search needs)
-    returns)
+    tie.close (tie.spec (λ c κs. search needs) (λ c κs. search needs) (λ c κs. search needs) returns)
