@@ -2,7 +2,7 @@
 use mathlib.Core.Path.{_≡_, refl, sym, ap, _∙_}
 use mathlib.Core.Bool.{Bool, true, false, cond}
 use mathlib.Core.List.{List, [], _∷_, _++_, append-nil, foldl}
-use Prim.Native.Nat.{ℕ, _+_, _*_, _%_, _^_, _≤_, _<_}
+use Prim.Native.Nat.{ℕ, _+_, _%_, _^_, _≤_, _<_}
 use native.Mathlib.Nat.{mul-le-mul-left}
 use native.Mathlib.Omega.{arith}
 use borrow.Author.Tests.{eq-eqb, ne-eqb, eqb-true, eqb-false, leb-true, leb-false}
@@ -10,7 +10,7 @@ use lib.Dec.{eqb, leb}
 use lib.ListN.{length, take, getD, set, length-append, length-take, length-set, getD-replicate}
 use lib.Seq.{append-snoc, take-all, take-append-le, take-nil, getD-set-same, getD-set-other}
 use Rattle.histogram.specs.declared.Histogram.{Histogram}
-use Rattle.histogram.specs.Samples.{binCount, binOf, Within, none, more, inBin, sumOf, Counts, limit, Holds, Fits}
+use Rattle.histogram.specs.Samples.{binCount, binOf, Within, none, more, inBin, Counts, limit, Holds, Fits}
 use Rattle.histogram.specs.Counted.{frozenOf, clearedOf, withSample, countedOf, countedAll}
 use Rattle.histogram.proofs.Samples.{bin-below, in-bin-more, sum-more, lowest-more, highest-more, within-more, in-bin-below, sum-below, lowest-within, highest-within, within-take}
 

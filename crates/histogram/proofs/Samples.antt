@@ -1,5 +1,5 @@
 -- The bin is 0 to 31; what one sample more does to each count over a list, and how large the counts are. Assumes nothing.
-use mathlib.Core.Path.{_≡_, refl, ap, _∙_}
+use mathlib.Core.Path.{_≡_}
 use mathlib.Core.Bool.{Bool, true, false, cond}
 use mathlib.Core.List.{List, [], _∷_, _++_, foldr}
 use Prim.Native.Nat.{ℕ, zero, suc, _+_, _*_, _≤_, _<_, min, max, zero-le}
@@ -32,15 +32,15 @@ module _ (t : ℕ) where
   least x [] = omega arith
   least x (y ∷ samples) = omega (arith, least x samples)
 
-  pub lowest-more : (samples : List ℕ) → lowestOf (samples ++ t ∷ []) ≡ cond (eqb (length samples) 0) t (min (lowestOf samples) t)
-  lowest-more [] = refl
+  pub lowest-more : (samples : List ℕ) → lowestOf (samples ++ t ∷ []) ≡ min (cond (eqb (length samples) 0) t (lowestOf samples)) t
+  lowest-more [] = omega arith
   lowest-more (x ∷ samples) = rw (not-none samples) (least x samples)
 
   greatest : (samples : List ℕ) → highestOf (samples ++ t ∷ []) ≡ max (highestOf samples) t
   greatest [] = omega arith
   greatest (x ∷ samples) = omega (arith, greatest samples)
 
-  pub highest-more : (samples : List ℕ) → highestOf (samples ++ t ∷ []) ≡ cond (eqb (length samples) 0) t (max (highestOf samples) t)
+  pub highest-more : (samples : List ℕ) → highestOf (samples ++ t ∷ []) ≡ max (cond (eqb (length samples) 0) t (highestOf samples)) t
   highest-more [] = omega arith
   highest-more (x ∷ samples) = rw (not-none samples) (greatest (x ∷ samples))
 

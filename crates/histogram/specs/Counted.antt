@@ -15,6 +15,10 @@ frozenOf h = eqb (h .total) limit
 abbrev pub clearedOf : Histogram
 clearedOf = record { bins = replicate binCount 0; total = 0; sum = 0; lowest = 0; highest = 0 }
 
+-- the lowest or the highest so far; where t is the first sample, t
+abbrev pub soFar : Histogram → ℕ → ℕ → ℕ
+soFar h t end = cond (eqb (h .total) 0) t end
+
 -- One more sample t: one more in its bin (past the last bin none changes), in the total, and so on.
 unfoldable pub withSample : Histogram → ℕ → ℕ → Histogram
 withSample h w t =
@@ -22,8 +26,8 @@ withSample h w t =
       bins = set (h .bins) (binOf w t) ((getD (h .bins) (binOf w t) 0 + 1) % 2 ^ 32);
       total = h .total + 1;
       sum = (h .sum + t) % 2 ^ 64;
-      lowest = cond (eqb (h .total) 0) t (min (h .lowest) t);
-      highest = cond (eqb (h .total) 0) t (max (h .highest) t);
+      lowest = min (soFar h t (h .lowest)) t;
+      highest = max (soFar h t (h .highest)) t;
     }
 
 -- "the port's bins, total and trend stay as they are"

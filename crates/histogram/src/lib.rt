@@ -76,24 +76,23 @@ fn raised(bins: [u32; BIN_COUNT], i: usize) -> [u32; BIN_COUNT]
     }
 }
 
-// The lower of the lowest sample and t; t where it is the first.
-fn lower(first: bool, lowest: u16, t: u16) -> u16
-    ensures { λ r. ⌜ r ≡ cond first t (min lowest t) ⌝ }
+fn lower(a: u16, b: u16) -> u16
+    ensures { λ r. ⌜ r ≡ min a b ⌝ }
 {
-    if first {
-        return t;
-    }
-    if t < lowest { t } else { lowest }
+    if a < b { a } else { b }
 }
 
-// The higher of the highest sample and t; t where it is the first.
-fn higher(first: bool, highest: u16, t: u16) -> u16
-    ensures { λ r. ⌜ r ≡ cond first t (max highest t) ⌝ }
+fn higher(a: u16, b: u16) -> u16
+    ensures { λ r. ⌜ r ≡ max a b ⌝ }
 {
-    if first {
-        return t;
-    }
-    if highest < t { t } else { highest }
+    if a < b { b } else { a }
+}
+
+// The first sample t stands for the lowest and the highest so far.
+fn so_far(first: bool, t: u16, end: u16) -> u16
+    ensures { λ r. ⌜ r ≡ cond first t end ⌝ }
+{
+    if first { t } else { end }
 }
 
 // One more sample t. A frozen histogram stays as it is.
@@ -110,8 +109,8 @@ pub fn counted(h: Histogram, w: u16, t: u16) -> Histogram
         bins,
         total: h.total + 1,
         sum: std::num::wrapping_add_u64(h.sum, t as u64),
-        lowest: lower(first, h.lowest, t),
-        highest: higher(first, h.highest, t),
+        lowest: lower(so_far(first, t, h.lowest), t),
+        highest: higher(so_far(first, t, h.highest), t),
     }
 }
 

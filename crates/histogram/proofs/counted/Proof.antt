@@ -21,9 +21,19 @@ add-t9 c =
 returns-2 : tie.Need-returns-2
 unfolding countedOf withSample
 returns-2 c =
-    let raised = c .before .before .before .before in
+    let summed = c .before .before .before .before in
+    let raised = summed .before .before in
     let at = raised .before .before .before .before in
-    simp (simp (at .before .frozen .ensures) at (at .if1 .left), c .higher .ensures, c .before .lower .ensures, c .before .before .wrapping-add-u64 .ensures, raised .raised .ensures, raised .before .bin .ensures)
+    simp (
+      simp (at .before .frozen .ensures) at (at .if1 .left),
+      raised .before .bin .ensures,
+      raised .raised .ensures,
+      summed .wrapping-add-u64 .ensures,
+      c .before .before .before .so-far .ensures,
+      c .before .before .lower .ensures,
+      c .before .so-far2 .ensures,
+      c .higher .ensures,
+    )
 
 pub counted-spec : {M : Type 1} → statement M
 counted-spec =
@@ -34,6 +44,8 @@ counted-spec =
     (λ c κs. search needs)
     (λ c κs. search needs)
     add-t9
+    (λ c κs. search needs)
+    (λ c κs. search needs)
     (λ c κs. search needs)
     (λ c κs. search needs)
     (λ c κs. search needs)
