@@ -1,5 +1,5 @@
 -- A histogram that counts its samples one by one holds what document 01 says of the list of them, and nothing in it wraps. Assumes nothing.
-use mathlib.Core.Path.{_≡_, refl, sym, ap, _∙_}
+use mathlib.Core.Path.{_≡_, refl, sym, _∙_}
 use mathlib.Core.Bool.{Bool, true, false, cond}
 use mathlib.Core.List.{List, [], _∷_, _++_, append-nil, foldl}
 use Prim.Native.Nat.{ℕ, _+_, _%_, _^_, _≤_, _<_}
@@ -12,7 +12,7 @@ use lib.Seq.{append-snoc, take-all, take-append-le, take-nil, getD-set-same, get
 use Rattle.histogram.specs.declared.Histogram.{Histogram}
 use Rattle.histogram.specs.Samples.{binCount, binOf, Within, none, more, inBin, Counts, limit, Holds, Fits}
 use Rattle.histogram.specs.Counted.{frozenOf, clearedOf, withSample, countedOf, countedAll}
-use Rattle.histogram.proofs.Samples.{bin-below, in-bin-more, sum-more, lowest-more, highest-more, within-more, in-bin-below, sum-below, lowest-within, highest-within, within-take}
+use Rattle.histogram.proofs.Samples.{in-bin-more, sum-more, lowest-more, highest-more, within-more, in-bin-below, sum-below, lowest-within, highest-within, within-take}
 
 -- ---- nothing wraps
 module _ {w : ℕ} {samples : List ℕ} {h : Histogram} (small : w ≤ 65535) (within : Within w samples) where
@@ -81,10 +81,10 @@ module _ (w : ℕ) (small : w ≤ 65535) where
   pub all-counted : (samples : List ℕ) → Within w samples → Holds w samples (countedAll w samples)
   all-counted samples within = then-all [] clearedOf samples none within (cleared-holds w)
 
-module _ {w : ℕ} {samples : List ℕ} {h : Histogram} (small : w ≤ 65535) (within : Within w samples) (holds : Holds w samples h) where
-  pub nothing-wraps : Fits h
-  nothing-wraps = fits small (within-take limit within) (omega (arith, length-take limit samples)) holds
+pub nothing-wraps : {w : ℕ} {samples : List ℕ} {h : Histogram} → w ≤ 65535 → Within w samples → Holds w samples h → Fits h
+nothing-wraps {w} {samples} {h} small within holds = fits small (within-take limit within) (omega (arith, length-take limit samples)) holds
 
+module _ {w : ℕ} (samples : List ℕ) {h : Histogram} (holds : Holds w samples h) where
   -- the frozen mark is set exactly where there are as many samples as the limit, or more
   pub frozen-mark : frozenOf h ≡ leb limit (length samples)
   unfolding frozenOf
