@@ -2,6 +2,33 @@
 // Each test program uses only some of them.
 #![allow(dead_code)]
 
+/// The response histogram of a port.
+#[repr(C)]
+#[derive(Clone, Copy, Debug, PartialEq)]
+pub struct Histogram {
+    pub bins: [u32; 32],
+    pub total: u32,
+    pub sum: u64,
+    pub lowest: u16,
+    pub highest: u16,
+}
+
+#[repr(C)]
+#[derive(Clone, Copy, Debug)]
+pub struct TrendPoint {
+    pub mean: f64,
+    pub lowest: f32,
+    pub highest: f32,
+}
+
+/// A trend point beside its answer number.
+#[repr(C)]
+#[derive(Clone, Copy, Debug)]
+pub struct Trend {
+    pub number: u8,
+    pub point: TrendPoint,
+}
+
 // Rattle's `&[u8]` is a pointer and a length here; a reference to an array is a pointer alone.
 extern "C" {
     fn whakelouna_table16(table: &mut [u16; 256]);
@@ -22,6 +49,11 @@ extern "C" {
         octets: *const u8,
         length: usize,
     ) -> u32;
+    fn whakelouna_bin(watchdog: u16, time: u32) -> usize;
+    fn whakelouna_frozen(histogram: Histogram) -> bool;
+    fn whakelouna_cleared() -> Histogram;
+    fn whakelouna_counted(histogram: Histogram, watchdog: u16, sample: u16) -> Histogram;
+    fn whakelouna_trend_of(histogram: Histogram) -> Trend;
 }
 
 // No exported function asks anything of the values it is given, so each call below needs only
@@ -57,4 +89,24 @@ pub fn signature16_by(table: &[u16; 256], seed: u16, octets: &[u8]) -> u16 {
 
 pub fn signature32_by(table: &[u32; 256], seed: u32, octets: &[u8]) -> u32 {
     unsafe { whakelouna_signature32_by(table, seed, octets.as_ptr(), octets.len()) }
+}
+
+pub fn bin(watchdog: u16, time: u32) -> usize {
+    unsafe { whakelouna_bin(watchdog, time) }
+}
+
+pub fn frozen(histogram: Histogram) -> bool {
+    unsafe { whakelouna_frozen(histogram) }
+}
+
+pub fn cleared() -> Histogram {
+    unsafe { whakelouna_cleared() }
+}
+
+pub fn counted(histogram: Histogram, watchdog: u16, sample: u16) -> Histogram {
+    unsafe { whakelouna_counted(histogram, watchdog, sample) }
+}
+
+pub fn trend_of(histogram: Histogram) -> Trend {
+    unsafe { whakelouna_trend_of(histogram) }
 }

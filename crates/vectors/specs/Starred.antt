@@ -4,6 +4,7 @@ use mathlib.Core.List.{List, [], _∷_, map}
 use Prim.Native.Nat.{ℕ}
 use Rattle.gf2.specs.Generators.{generator16, generator32}
 use Rattle.signature.specs.Lookup.{division}
+use Rattle.histogram.specs.Samples.{binOf}
 
 -- what our definitions give, and what the paper says
 unfoldable pub rows : List (ℕ × ℕ)
@@ -17,6 +18,12 @@ rows =
     -- long table: entry 1 is 0xF4ACFB13, entry 2 is 0x1DF50D35
     ∷ (division 32 generator32 8 1, 0xF4ACFB13)
     ∷ (division 32 generator32 8 2, 0x1DF50D35)
+    -- W 99: t 3 is bin 0, t 4 is bin 1, t 99 is bin 31; W 1: t 1 is bin 16; W 65535: t 65535 is bin 31
+    ∷ (binOf 99 3, 0)
+    ∷ (binOf 99 4, 1)
+    ∷ (binOf 99 99, 31)
+    ∷ (binOf 1 1, 16)
+    ∷ (binOf 65535 65535, 31)
     ∷ []
 
 -- the claim: in every row the two are equal

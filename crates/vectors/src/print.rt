@@ -26,3 +26,22 @@ pub(crate) fn compared(name: &[u8], ours: u64, paper: u64) {
         text(b"\n");
     }
 }
+
+// The pattern of a float; of a NaN, all ones.
+fn pattern(x: f64) -> u64 {
+    if x == x { f64::to_bits(x) } else { u64::MAX }
+}
+
+// The same of a float, by its pattern.
+pub(crate) fn compared_float(name: &[u8], ours: f64, paper: u64) {
+    text(name);
+    text(b": ");
+    hex(pattern(ours), 16);
+    if pattern(ours) == paper {
+        text(b"\n");
+    } else {
+        text(b" DIFFERS from ");
+        hex(paper, 16);
+        text(b"\n");
+    }
+}

@@ -1,0 +1,3 @@
+pub mod Samples
+pub mod Counted
+pub mod Trends

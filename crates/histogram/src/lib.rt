@@ -1,0 +1,154 @@
+// The response histogram of a port and its trend point (document 01, "The histogram and the trend").
+ghost use mathlib.Core.Path.{_≡_};
+ghost use mathlib.Core.Bool.{cond};
+ghost use Prim.Native.Nat.{_+_, _%_, _^_, min, max};
+ghost use lib.ListN.{getD, set};
+ghost use Rattle.histogram.specs.Samples.{binOf};
+ghost use Rattle.histogram.specs.Counted.{frozenOf, clearedOf, countedOf};
+ghost use Rattle.histogram.specs.Trends.{meanOf, pointOf, trendOf};
+use answer::Answer;
+
+pub const BIN_COUNT: usize = 32;
+
+// The total at which a histogram is frozen.
+pub const LIMIT: u32 = 4294967295;
+
+// Samples are in ms. Where there is none, the lowest and the highest are 0.
+#[repr(C)]
+pub struct Histogram {
+    pub bins: [u32; BIN_COUNT],
+    pub total: u32,
+    pub sum: u64,
+    pub lowest: u16,
+    pub highest: u16,
+}
+
+// The mean, and the lowest and the highest sample, in ms.
+#[repr(C)]
+pub struct TrendPoint {
+    pub mean: f64,
+    pub lowest: f32,
+    pub highest: f32,
+}
+
+// A trend point beside its answer.
+pub struct Trend {
+    pub answer: Answer,
+    pub point: TrendPoint,
+}
+
+// The bin of the time t at the watchdog time w: below 32 where t is at most w.
+pub fn bin(w: u16, t: u32) -> usize
+    ensures { λ r. ⌜ r ≡ binOf w t ⌝ }
+{
+    (t as usize) * BIN_COUNT / ((w as usize) + 1)
+}
+
+pub fn frozen(h: Histogram) -> bool
+    ensures { λ r. ⌜ r ≡ frozenOf h ⌝ }
+{
+    h.total == LIMIT
+}
+
+// A new histogram: no sample.
+pub fn cleared() -> Histogram
+    ensures { λ r. ⌜ r ≡ clearedOf ⌝ }
+{
+    Histogram {
+        bins: [0u32; BIN_COUNT],
+        total: 0,
+        sum: 0,
+        lowest: 0,
+        highest: 0,
+    }
+}
+
+// One more in bin i; past the last bin nothing changes.
+fn raised(bins: [u32; BIN_COUNT], i: usize) -> [u32; BIN_COUNT]
+    ensures { λ r. ⌜ r ≡ set bins i ((getD bins i 0 + 1) % 2 ^ 32) ⌝ }
+{
+    if i < BIN_COUNT {
+        let mut later = bins;
+        later[i] = std::num::wrapping_add_u32(later[i], 1);
+        later
+    } else {
+        bins
+    }
+}
+
+fn lower(a: u16, b: u16) -> u16
+    ensures { λ r. ⌜ r ≡ min a b ⌝ }
+{
+    if a < b { a } else { b }
+}
+
+fn higher(a: u16, b: u16) -> u16
+    ensures { λ r. ⌜ r ≡ max a b ⌝ }
+{
+    if a < b { b } else { a }
+}
+
+// The first sample t stands for the lowest and the highest so far.
+fn so_far(first: bool, t: u16, end: u16) -> u16
+    ensures { λ r. ⌜ r ≡ cond first t end ⌝ }
+{
+    if first { t } else { end }
+}
+
+// One more sample t. A frozen histogram stays as it is.
+pub fn counted(h: Histogram, w: u16, t: u16) -> Histogram
+    ensures { λ r. ⌜ r ≡ countedOf h w t ⌝ }
+{
+    if frozen(h) {
+        return h;
+    }
+    let first = h.total == 0;
+    let old = h.bins;
+    let bins = raised(old, bin(w, t as u32));
+    Histogram {
+        bins,
+        total: h.total + 1,
+        sum: std::num::wrapping_add_u64(h.sum, t as u64),
+        lowest: lower(so_far(first, t, h.lowest), t),
+        highest: higher(so_far(first, t, h.highest), t),
+    }
+}
+
+// Two exact conversions and one division.
+fn mean(sum: u64, total: u64) -> f64
+    ensures { λ r. ⌜ r ≡ meanOf sum total ⌝ }
+{
+    std::num::nearest_u64_to_f64(sum) / std::num::nearest_u64_to_f64(total)
+}
+
+// The trend point of a histogram that has samples.
+fn point(h: Histogram) -> TrendPoint
+    ensures { λ r. ⌜ r ≡ pointOf h ⌝ }
+{
+    TrendPoint {
+        mean: mean(h.sum, h.total as u64),
+        lowest: h.lowest as f32,
+        highest: h.highest as f32,
+    }
+}
+
+// NO_SAMPLES and three zeros where there is no sample.
+pub fn trend_of(h: Histogram) -> Trend
+    ensures { λ r. ⌜ r ≡ trendOf h ⌝ }
+{
+    if h.total == 0 {
+        Trend {
+            answer: Answer::NoSamples,
+            point: TrendPoint {
+                mean: 0.0,
+                lowest: 0.0,
+                highest: 0.0,
+            },
+        }
+    } else {
+        Trend {
+            answer: Answer::Taken,
+            point: point(h),
+        }
+    }
+}
