@@ -43,4 +43,43 @@ struct whakelouna_histogram whakelouna_cleared(void);
 struct whakelouna_histogram whakelouna_counted(struct whakelouna_histogram histogram, uint16_t watchdog, uint16_t sample);
 struct whakelouna_trend whakelouna_trend_of(struct whakelouna_histogram histogram);
 
+// What an accepted parameter block hands on, under the names of 000 Table 22.
+struct whakelouna_params {
+    uint8_t PortMode;
+    uint8_t ValidationBackup;
+    uint8_t IQBehavior;
+    uint8_t PortCycleTime;
+    uint16_t VendorID;
+    uint32_t DeviceID;
+    uint8_t InputDataLength;
+    uint8_t OutputDataLength;
+    uint32_t FSCP_Authenticity1;
+    uint32_t FSCP_Authenticity2;
+    uint8_t FSP_Port;
+    uint8_t FSP_ProtVersion;
+    uint8_t FSP_ProtMode;
+    uint16_t FSP_WatchdogTime;
+    uint32_t FSP_TechParCRC;
+    uint8_t SPDUInLength;
+    uint8_t TotalOfInBits;
+    uint8_t TotalOfInOctets;
+    uint8_t TotalOfInInt16;
+    uint8_t TotalOfInInt32;
+    uint8_t SPDUOutLength;
+    uint8_t TotalOfOutBits;
+    uint8_t TotalOfOutOctets;
+    uint8_t TotalOfOutInt16;
+    uint8_t TotalOfOutInt32;
+};
+
+// The number and the offset of 01's answer; the parameters are zeros in a refusal.
+struct whakelouna_block_answer {
+    uint8_t number;
+    uint8_t offset;
+    struct whakelouna_params params;
+};
+
+// The answer to a parameter block for a port.
+struct whakelouna_block_answer whakelouna_judge_block(const uint8_t *octets, size_t length, uint8_t port);
+
 #endif

@@ -54,6 +54,44 @@ extern "C" {
     fn whakelouna_cleared() -> Histogram;
     fn whakelouna_counted(histogram: Histogram, watchdog: u16, sample: u16) -> Histogram;
     fn whakelouna_trend_of(histogram: Histogram) -> Trend;
+    fn whakelouna_judge_block(octets: *const u8, length: usize, port: u8) -> BlockAnswer;
+}
+
+#[repr(C)]
+pub struct BlockAnswer {
+    pub number: u8,
+    pub offset: u8,
+    pub params: Params,
+}
+
+/// The elements of 000 Table 22 that an accepted block hands on.
+#[repr(C)]
+pub struct Params {
+    pub port_mode: u8,
+    pub validation_backup: u8,
+    pub iq_behavior: u8,
+    pub port_cycle_time: u8,
+    pub vendor_id: u16,
+    pub device_id: u32,
+    pub input_data_length: u8,
+    pub output_data_length: u8,
+    pub fscp_authenticity1: u32,
+    pub fscp_authenticity2: u32,
+    pub fsp_port: u8,
+    pub fsp_prot_version: u8,
+    pub fsp_prot_mode: u8,
+    pub fsp_watchdog_time: u16,
+    pub fsp_tech_par_crc: u32,
+    pub spdu_in_length: u8,
+    pub total_of_in_bits: u8,
+    pub total_of_in_octets: u8,
+    pub total_of_in_int16: u8,
+    pub total_of_in_int32: u8,
+    pub spdu_out_length: u8,
+    pub total_of_out_bits: u8,
+    pub total_of_out_octets: u8,
+    pub total_of_out_int16: u8,
+    pub total_of_out_int32: u8,
 }
 
 // No exported function asks anything of the values it is given, so each call below needs only
@@ -109,4 +147,8 @@ pub fn counted(histogram: Histogram, watchdog: u16, sample: u16) -> Histogram {
 
 pub fn trend_of(histogram: Histogram) -> Trend {
     unsafe { whakelouna_trend_of(histogram) }
+}
+
+pub fn judge_block(octets: &[u8], port: u8) -> BlockAnswer {
+    unsafe { whakelouna_judge_block(octets.as_ptr(), octets.len(), port) }
 }

@@ -2,5 +2,6 @@
 // Each test program uses only some of it.
 #![allow(dead_code)]
 
+pub mod block;
 pub mod histogram;
 pub mod signature;

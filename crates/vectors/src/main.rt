@@ -1,4 +1,5 @@
 // Runs document 01's numbers and 000's printed tables, and compares. What it prints is held to the file stdout.
+mod blocks;
 mod histograms;
 mod print;
 mod printed;
@@ -6,5 +7,6 @@ mod signatures;
 
 fn main() {
     signatures::run();
+    blocks::run();
     histograms::run();
 }

@@ -45,3 +45,21 @@ pub(crate) fn compared_float(name: &[u8], ours: f64, paper: u64) {
         text(b"\n");
     }
 }
+
+// An answer as we give it, beside the answer that it should be.
+pub(crate) fn answered(name: &[u8], number: u8, offset: u8, paper_number: u8, paper_offset: u8) {
+    text(name);
+    text(b": number ");
+    decimal(number as u64);
+    text(b" at offset ");
+    decimal(offset as u64);
+    if (number == paper_number) & (offset == paper_offset) {
+        text(b"\n");
+    } else {
+        text(b" DIFFERS from ");
+        decimal(paper_number as u64);
+        text(b" at ");
+        decimal(paper_offset as u64);
+        text(b"\n");
+    }
+}
