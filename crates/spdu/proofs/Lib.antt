@@ -1,0 +1,12 @@
+pub mod Tables
+pub mod Zeros
+pub mod Join
+pub mod Trailer
+pub mod Buffers
+pub mod Parts
+pub mod Composed
+pub mod Numbers
+pub mod Modes
+pub mod ReadBack
+pub mod Demand3
+pub mod Needed
