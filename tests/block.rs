@@ -308,17 +308,17 @@ impl Test {
         }
     }
 
-    /// Slices that start at each address modulo 16. What stands around a slice changes nothing.
+    /// Slices that start at each address modulo 16. What stands around a slice changes nothing, the
+    /// rest of a good block neither.
     fn parts_of_buffers(&mut self, kind: Kind) {
         for start in 0..16 {
             for size in 40..=56 {
                 let good = good(&mut self.random, kind);
                 let end = start + size;
-                let mut buffer = self.random.octets(end + 16);
-                let kept = size.min(LENGTH);
-                buffer[start..start + kept].copy_from_slice(&good[..kept]);
+                let mut buffer = self.random.octets(start + 72);
+                buffer[start..start + LENGTH].copy_from_slice(&good);
                 self.compare(&buffer[start..end], good[22]);
-                for place in (0..start).chain(end..end + 16) {
+                for place in (0..start).chain(end..start + 72) {
                     buffer[place] = !buffer[place];
                 }
                 self.compare(&buffer[start..end], good[22]);
