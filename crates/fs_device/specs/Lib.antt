@@ -1,0 +1,2 @@
+pub mod Table40
+pub mod Calls
