@@ -16,9 +16,9 @@ use Rattle.fs_device.specs.declared.Device.{Device}
 use Rattle.fs_device.specs.declared.Row.{Row}
 use Rattle.fs_device.specs.declared.Row.the-variants.{Stay, T22, T25, T28, T29, T30, T31}
 
--- R19: after an accepted block, T20 done
-abbrev pub firstDevice : Device
-firstDevice = record {
+-- R19: after an accepted block with its reading, T20 done; no SPDU has been taken, and DTimer does not run
+abbrev pub firstDevice : ℕ → Device
+firstDevice at = record {
   state = 21;
   SDcycles = 3;
   CommErrCount = 0;
@@ -30,7 +30,7 @@ firstDevice = record {
   «ChFAckReq_DC» = false;
   «DCount_i» = 0;
   MCount = 0;
-  DTimer = 0;
+  DTimer = at;
   runs = false;
   released = false;
   responded = false;
@@ -38,10 +38,13 @@ firstDevice = record {
 
 -- Guards
 
--- states 24 and 26, "After FSP_WatchdogTime expired": T31, T30; DTimer does not run in 21 (R11)
+-- states 24 and 26, "After FSP_WatchdogTime expired": T31, T30
+abbrev pub timeoutRow : ℕ → Row
+timeoutRow state = cond (eqb state 24) T31 (cond (eqb state 26) T30 Stay)
+
+-- DTimer does not run in 21 (R11)
 unfoldable pub watchdogRow : Device → ℕ → ℕ → Row
-watchdogRow d w at =
-    cond (d .runs && expiredOf at (d .DTimer) w) (cond (eqb (d .state) 24) T31 (cond (eqb (d .state) 26) T30 Stay)) Stay
+watchdogRow d w at = cond (d .runs && expiredOf at (d .DTimer) w) (timeoutRow (d .state)) Stay
 
 -- T24, T27, MCounter_incremented (R18): where MCount is the previous one the SPDU is old. An SPDU of zeros alone is ignored (R12)
 abbrev pub isOld : Device → Request → Bool

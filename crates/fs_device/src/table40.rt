@@ -8,9 +8,9 @@ use crate::Row;
 use scl::Check;
 use spdu::Request;
 
-// After an accepted block.
-pub fn first() -> Device
-    ensures { λ r. ⌜ r ≡ table40.firstDevice ⌝ }
+// After an accepted block with its reading.
+pub fn first(at: u32) -> Device
+    ensures { λ r. ⌜ r ≡ table40.firstDevice at ⌝ }
 {
     Device {
         state: 21,
@@ -24,27 +24,30 @@ pub fn first() -> Device
         ChFAckReq_DC: false,
         DCount_i: 0,
         MCount: 0,
-        DTimer: 0,
+        DTimer: at,
         runs: false,
         released: false,
         responded: false,
     }
 }
 
+fn timeout_row(state: u8) -> Row
+    ensures { λ r. ⌜ r ≡ table40.timeoutRow state ⌝ }
+{
+    if state == 24 {
+        return Row::T31;
+    }
+    if state == 26 { Row::T30 } else { Row::Stay }
+}
+
 pub(crate) fn watchdog_row(d: Device, w: u16, at: u32) -> Row
     ensures { λ r. ⌜ r ≡ table40.watchdogRow d w at ⌝ }
 {
-    let over = d.runs & scl::expired(at, d.DTimer, w);
-    if !over {
-        return Row::Stay;
+    if d.runs & scl::expired(at, d.DTimer, w) {
+        timeout_row(d.state)
+    } else {
+        Row::Stay
     }
-    if d.state == 24 {
-        return Row::T31;
-    }
-    if d.state == 26 {
-        return Row::T30;
-    }
-    Row::Stay
 }
 
 pub(crate) fn is_old(d: Device, q: Request) -> bool
