@@ -1,0 +1,2 @@
+pub mod Table38
+pub mod Calls
