@@ -47,7 +47,7 @@ holds false p c e = no e
 
 -- what is asked of an SPDU that leads to a release: T22, no error, no cycles left, setSD 0
 abbrev Asked : Device → Request → Bool → Row → Type 0
-Asked d q commErr r = (r ≡ T22) × ((commErr ≡ false) × ((d .SDcycles ≡ 0) × (q .setSD ≡ false)))
+Asked d q commErr r = ((r ≡ T22) × ((commErr ≡ false) × ((d .SDcycles ≡ 0) × (q .setSD ≡ false)))) × (eqb (d .state) 26 ≡ false)
 
 t22-asks : (n : ℕ) (set : Bool) → (not (not (eqb n 0)) && not set) ≡ true → (n ≡ 0) × (set ≡ false)
 t22-asks n set e = (
@@ -64,28 +64,37 @@ row-asks d q at true =
 row-asks d q at false =
     cond-case (λ (r : Row). acted (taken d q) r at (q .setSD) false .released ≡ true → Asked d q false r) (eqb (d .state) 26)
     (λ _. cond-case (λ (r : Row). acted (taken d q) r at (q .setSD) false .released ≡ true → Asked d q false r) (not (eqb (d .SDcycles) 0)) (λ _ e. no (cc)) (λ _ e. no (cc)))
-    (λ _ e. (refl, (refl, t22-asks (d .SDcycles) (q .setSD) e)))
+    (λ s e. ((refl, (refl, t22-asks (d .SDcycles) (q .setSD) e)), s))
 
 answered-fresh : (d : Device) (r : Row) (at : ℕ) (q : Request) → isTaken d q ≡ true → arrived d r at q (checked d q) .mark ≡ Fresh → Releases d q × (arrived d r at q (checked d q) .arrival ≡ T22)
 unfolding arrived checked
 answered-fresh d r at q t e =
     let commErr = isFailure (checkOf (q .«signature_holds») (q .«port_holds») (countHolds d q)) in
     let a : Asked d q commErr (arrivalRow d commErr) = row-asks d q at commErr (fresh-released (acted (taken d q) (arrivalRow d commErr) at (q .setSD) commErr .released) e) in
-    let h = holds (q .«signature_holds») (q .«port_holds») (countHolds d q) (a .1 .0) in
-    (record { taken = t; signature = h .0; port = h .1 .0; count = h .1 .1; cycles = a .1 .1 .0; not-set = a .1 .1 .1 }, a .0)
+    let h = holds (q .«signature_holds») (q .«port_holds») (countHolds d q) (a .0 .1 .0) in
+    (record { taken = t; regular = a .1; signature = h .0; port = h .1 .0; count = h .1 .1; cycles = a .0 .1 .1 .0; not-set = a .0 .1 .1 .1 }, a .0 .0)
 
 received-fresh : (d : Device) (r : Row) (at : ℕ) (q : Request) → received d r at q .mark ≡ Fresh → Releases d q × (received d r at q .arrival ≡ T22)
 unfolding received
 received-fresh d r at q =
     cond-case (λ (o : Outcome). o .mark ≡ Fresh → Releases d q × (o .arrival ≡ T22)) (isTaken d q) (answered-fresh d r at q) (λ _. quiet-not d r (isOld d q))
 
--- Fresh octets are handed on in T22 alone, with SDcycles 0 and setSD 0, of an SPDU whose three checks hold.
+-- Fresh octets are handed on in T22 alone, with SDcycles 0 and setSD 0, of an SPDU whose three checks hold;
 pub fresh-only : (d : Device) (w : ℕ) (h : Happening) → stepOf d w h .mark ≡ Fresh → FreshBy d w h
 unfolding stepOf FreshBy watched
 fresh-only d w (happening.Request at q) e = received-fresh (judged d w at) (watchdogRow d w at) at q e
 fresh-only d w (happening.Response at f) e = quiet-not (judged d w at) (watchdogRow d w at) false e
 fresh-only d w (happening.Clock at) e = quiet-not (judged d w at) (watchdogRow d w at) false e
 fresh-only d w (happening.Operator at setSD ack) e = quiet-not (judged d w at) (watchdogRow d w at) false e
+
+arrived-fresh : (d : Device) (r : Row) (at : ℕ) (q : Request) → Releases d q → arrived d r at q (checked d q) .mark ≡ Fresh
+unfolding arrived checked arrivalRow acted taken t22
+arrived-fresh d r at q c = simp (c .signature, c .port, c .count, c .regular, c .cycles, c .not-set)
+
+-- and under these conditions they are.
+pub fresh-if : (d : Device) (w at : ℕ) (q : Request) → Releases (judged d w at) q → stepOf d w (happening.Request at q) .mark ≡ Fresh
+unfolding stepOf received
+fresh-if d w at q c = rw (c .taken) (arrived-fresh (judged d w at) (watchdogRow d w at) at q c)
 
 -- from d to e, with p SPDUs that passed (0 or 1): SDcycles falls by at most p, and release begins only where it was 0
 record Falls (d e : Device) (p : ℕ) : Type 0 where

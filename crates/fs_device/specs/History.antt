@@ -17,6 +17,7 @@ use Rattle.fs_device.specs.Calls.{judged, stepOf}
 -- the SPDU that T22 releases, at a device whose watchdog has been judged
 pub record Releases (d : Device) (q : Request) : Type 0 where
   pub taken : isTaken d q ≡ true
+  pub regular : eqb (d .state) 26 ≡ false
   pub signature : q .«signature_holds» ≡ true
   pub port : q .«port_holds» ≡ true
   pub count : countHolds d q ≡ true

@@ -61,14 +61,16 @@ fn watched(d: Device, w: u16, at: u32) -> Outcome
     ensures { λ r. ⌜ r ≡ calls.watched d w at ⌝ }
 {
     let row = watchdog_row(d, w, at);
-    quiet(acted(d, row, at, false, false), row, false)
+    let judged = acted(d, row, at, false, false);
+    quiet(judged, row, false)
 }
 
 fn requested(d: Device, w: u16, at: u32, q: Request) -> Outcome
     ensures { λ r. ⌜ r ≡ calls.received (calls.judged d w at) (table40.watchdogRow d w at) at q ⌝ }
 {
     let row = watchdog_row(d, w, at);
-    received(acted(d, row, at, false, false), row, at, q)
+    let judged = acted(d, row, at, false, false);
+    received(judged, row, at, q)
 }
 
 // A happening at a device whose watchdog time is w.

@@ -119,7 +119,6 @@ step-unacknowledged m w (happening.Request at q) u = inl (judged-unacknowledged 
 step-unacknowledged m w (happening.Clock at) u = inl (judged-unacknowledged m w at u)
 step-unacknowledged m w (happening.Operator at setSD ack) u = inl (signalled-unacknowledged (judged m w at) setSD ack (judged-unacknowledged m w at u))
 
-
 -- One call: an edge still awaited, or a fault again, or a T13 after one, or a T11 with ChFAck_C 1.
 abbrev Next : Master → Row → Master → Type 0
 Next m r n = FromUnacknowledged m r n ⊎ (Armed n ⊎ ((r ≡ T11) × (m .«ChFAck_C» ≡ true)))
@@ -160,9 +159,10 @@ mutual-unacknowledged w [] = ((λ m u e. no (cc (u .safe))), (λ m a e. no (cc (
 mutual-unacknowledged w (h ∷ hs) =
     let rest = mutual-unacknowledged w hs in
     let asked : (m : Master) → FromUnacknowledged m (stepOf m w h .arrival) (stepOf m w h .master) → run (stepOf m w h .master) w hs .released ≡ true → Acknowledged w m (h ∷ hs) =
-      λ m x e. ⊎-elim (λ u. asked-later (rest .0 (stepOf m w h .master) u e)) (λ z. ⊎-elim (λ n. asked-here (z .0) (z .1 .0) n) (λ n. asked-later n) (rest .1 (stepOf m w h .master) (z .1 .1) e)) x in
-    ((λ m u e. asked m (step-unacknowledged m w h u) e),
-    (λ m a e. ⊎-elim (λ x. inr (asked m x e)) (λ y. ⊎-elim (λ b. ⊎-elim (λ n. inl (answered-later n)) (λ n. inr (asked-later n)) (rest .1 (stepOf m w h .master) b e)) (λ t. inl (answered-here (t .0) (t .1))) y) (step-armed m w h a)))
+    λ m x e. ⊎-elim (λ u. asked-later (rest .0 (stepOf m w h .master) u e)) (λ z. ⊎-elim (λ n. asked-here (z .0) (z .1 .0) n) (λ n. asked-later n) (rest .1 (stepOf m w h .master) (z .1 .1) e)) x in (
+      (λ m u e. asked m (step-unacknowledged m w h u) e),
+      (λ m a e. ⊎-elim (λ x. inr (asked m x e)) (λ y. ⊎-elim (λ b. ⊎-elim (λ n. inl (answered-later n)) (λ n. inr (asked-later n)) (rest .1 (stepOf m w h .master) b e)) (λ t. inl (answered-here (t .0) (t .1))) y) (step-armed m w h a)),
+    )
 
 -- After T7, T8, T12 or T14, whatever happens, nothing is released before a T13 while ChFAck_C is 0 and a later T11 while it is 1.
 pub acknowledged-first : (m : Master) (w : ℕ) (hs : List Happening) → Unacknowledged m → run m w hs .released ≡ true → Acknowledged w m hs

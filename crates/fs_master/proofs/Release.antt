@@ -69,18 +69,20 @@ answered-fresh m r at f t e =
     let commErr = isFailure (checkOf (f .«signature_holds») (f .«port_holds») (isExpected m f)) in
     let faults = hasFaults commErr f in
     let a : Asked m f faults (arrivalRow m faults) = row-asks m f at faults (fresh-released (acted (taken m f) (arrivalRow m faults) at (f .SDset) .released) e) in
-    let h = holds (f .«signature_holds») (f .«port_holds») (isExpected m f) (or-left commErr (f .DCommErr) (or-left (commErr || f .DCommErr) (f .DTimeout) (a .none))) in
-    (record {
-      taken = t;
-      signature = h .0;
-      port = h .1 .0;
-      count = h .1 .1;
-      no-error = or-right commErr (f .DCommErr) (or-left (commErr || f .DCommErr) (f .DTimeout) (a .none));
-      no-timeout = or-right (commErr || f .DCommErr) (f .DTimeout) (a .none);
-      not-set = a .not-set;
-      not-asked = a .not-asked;
-      acknowledged = a .acknowledged;
-    }, a .row)
+    let h = holds (f .«signature_holds») (f .«port_holds») (isExpected m f) (or-left commErr (f .DCommErr) (or-left (commErr || f .DCommErr) (f .DTimeout) (a .none))) in (
+      record {
+        taken = t;
+        signature = h .0;
+        port = h .1 .0;
+        count = h .1 .1;
+        no-error = or-right commErr (f .DCommErr) (or-left (commErr || f .DCommErr) (f .DTimeout) (a .none));
+        no-timeout = or-right (commErr || f .DCommErr) (f .DTimeout) (a .none);
+        not-set = a .not-set;
+        not-asked = a .not-asked;
+        acknowledged = a .acknowledged;
+      },
+      a .row,
+    )
 
 received-fresh : (m : Master) (r : Row) (at : ℕ) (f : Response) → received m r at f .mark ≡ Fresh → Releases m f × (received m r at f .arrival ≡ releasingRow m)
 unfolding received

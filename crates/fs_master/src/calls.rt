@@ -63,14 +63,16 @@ fn responded(m: Master, w: u16, at: u32, f: Response) -> Outcome
     ensures { λ r. ⌜ r ≡ calls.received (calls.judged m w at) (table38.watchdogRow m w at) at f ⌝ }
 {
     let row = watchdog_row(m, w, at);
-    received(acted(m, row, at, false), row, at, f)
+    let judged = acted(m, row, at, false);
+    received(judged, row, at, f)
 }
 
 fn watched(m: Master, w: u16, at: u32) -> Outcome
     ensures { λ r. ⌜ r ≡ calls.watched m w at ⌝ }
 {
     let row = watchdog_row(m, w, at);
-    quiet(acted(m, row, at, false), row, false)
+    let judged = acted(m, row, at, false);
+    quiet(judged, row, false)
 }
 
 fn operated(m: Master, w: u16, at: u32, setSD_C: bool, ChFAck_C: bool) -> Outcome

@@ -9,7 +9,7 @@ returns c = simp (simp (c .before .before .before .expired .ensures) at (c .befo
 
 returns-2 : tie.Need-returns-2
 unfolding watchdogRow
-returns-2 c = simp (simp (c .before .before .expired .ensures) at (c .if1 .left), c .before .before .expired .ensures)
+returns-2 c = simp (simp (c .before .before .expired .ensures) at (c .if1 .left))
 
 pub watchdog-row-spec : {M : Type 1} → statement M
 watchdog-row-spec = tie.close (tie.spec (λ c κs. search needs) (λ c κs. search needs) returns returns-2)
