@@ -219,3 +219,13 @@ acted d T28 at setSD commErr = t28 d at
 acted d T29 at setSD commErr = t29 d at commErr
 acted d T30 at setSD commErr = t30t31 d at
 acted d T31 at setSD commErr = t30t31 d at
+
+-- the number that stands for a row outside: 000's, and 0 for none
+abbrev pub rowNumberOf : Row → ℕ
+rowNumberOf Stay = 0
+rowNumberOf T22 = 22
+rowNumberOf T25 = 25
+rowNumberOf T28 = 28
+rowNumberOf T29 = 29
+rowNumberOf T30 = 30
+rowNumberOf T31 = 31

@@ -4,6 +4,7 @@ mod table40;
 
 pub use calls::step;
 pub use table40::first;
+pub use table40::row_number;
 
 // 000's variables under their names, between two calls. `state` is 000's number: 21, 24 or 26. MCount is that of the last SPDU taken; DTimer
 // is the reading of its last restart, and `runs` says whether there was one. `released`: PDout is in use. `responded`: a response has been

@@ -211,3 +211,18 @@ pub(crate) fn acted(d: Device, row: Row, at: u32, setSD: bool, CommErr: bool) ->
         Row::T31 => t30_t31(d, at),
     }
 }
+
+// The number that stands for a row outside.
+pub fn row_number(row: Row) -> u8
+    ensures { λ r. ⌜ r ≡ table40.rowNumberOf row ⌝ }
+{
+    match row {
+        Row::Stay => 0,
+        Row::T22 => 22,
+        Row::T25 => 25,
+        Row::T28 => 28,
+        Row::T29 => 29,
+        Row::T30 => 30,
+        Row::T31 => 31,
+    }
+}

@@ -313,3 +313,14 @@ signalled m setSD ack = record {
   sample = m .sample;
   released = m .released;
 }
+
+-- the number that stands for a row outside: 000's, and 0 for none
+abbrev pub rowNumberOf : Row → ℕ
+rowNumberOf Stay = 0
+rowNumberOf T4 = 4
+rowNumberOf T7 = 7
+rowNumberOf T8 = 8
+rowNumberOf T11 = 11
+rowNumberOf T12 = 12
+rowNumberOf T13 = 13
+rowNumberOf T14 = 14

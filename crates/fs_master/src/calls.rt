@@ -79,11 +79,8 @@ fn operated(m: Master, w: u16, at: u32, setSD_C: bool, ChFAck_C: bool) -> Outcom
     ensures { λ r. ⌜ r ≡ calls.operated m w at «setSD_C» «ChFAck_C» ⌝ }
 {
     let row = watchdog_row(m, w, at);
-    quiet(
-        signalled(acted(m, row, at, false), setSD_C, ChFAck_C),
-        row,
-        false,
-    )
+    let judged = acted(m, row, at, false);
+    quiet(signalled(judged, setSD_C, ChFAck_C), row, false)
 }
 
 // A happening at a master whose watchdog time is w.

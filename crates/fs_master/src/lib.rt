@@ -4,6 +4,7 @@ mod table38;
 
 pub use calls::step;
 pub use table38::first;
+pub use table38::row_number;
 
 // 000's variables under their names, between two calls. `state` is 000's number: 2, 5 or 7. setSD_C and ChFAck_C are the operator signals as
 // they hold. Of the previous SPDU, if there was one: the DCount_i that it carried and the one awaited of it. MTimer is the reading of its last

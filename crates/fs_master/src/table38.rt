@@ -262,3 +262,19 @@ pub(crate) fn signalled(m: Master, setSD_C: bool, ChFAck_C: bool) -> Master
     n.ChFAck_C = ChFAck_C;
     n
 }
+
+// The number that stands for a row outside.
+pub fn row_number(row: Row) -> u8
+    ensures { λ r. ⌜ r ≡ table38.rowNumberOf row ⌝ }
+{
+    match row {
+        Row::Stay => 0,
+        Row::T4 => 4,
+        Row::T7 => 7,
+        Row::T8 => 8,
+        Row::T11 => 11,
+        Row::T12 => 12,
+        Row::T13 => 13,
+        Row::T14 => 14,
+    }
+}
