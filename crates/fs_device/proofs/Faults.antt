@@ -1,0 +1,165 @@
+-- What the FS-Device makes of counts, of damaged SPDUs and of time. Assumes nothing.
+use Prim.Native.Nat.{ℕ, _≤_}
+use mathlib.Core.Path.{_≡_, refl}
+use mathlib.Core.Bool.{Bool, true, false, cond, not, _&&_, _||_}
+use lib.Dec.{eqb}
+use borrow.Author.Tests.{le-ltb}
+use Rattle.scl.specs.Time.{elapsedOf, expiredOf}
+use Rattle.scl.specs.Counts.{inverted}
+use Rattle.scl.specs.Happenings.{checkOf, isFailure}
+use Rattle.scl.specs.declared.Happening.{Happening}
+use Rattle.scl.specs.declared.Happening.the-variants as happening
+use Rattle.scl.specs.declared.Check.{Check}
+use Rattle.spdu.specs.declared.Mark.the-variants.{Safe}
+use Rattle.scl.proofs.Cases.{cond-case, cond-both, no}
+use Rattle.spdu.specs.declared.Request.{Request}
+use Rattle.fs_device.specs.declared.Device.{Device}
+use Rattle.fs_device.specs.declared.Outcome.{Outcome}
+use Rattle.fs_device.specs.declared.Row.{Row}
+use Rattle.fs_device.specs.declared.Row.the-variants.{Stay, T22, T25, T28, T29, T30, T31}
+use Rattle.fs_device.specs.Table40.{timeoutRow, watchdogRow, isOld, isTaken, countHolds, checked, arrivalRow, taken, t22, t25, t28, t29, t30t31, acted}
+use Rattle.fs_device.specs.Calls.{judged, quiet, arrived, received, watched, stepOf}
+use Rattle.fs_device.specs.History.{Mirrors, lastTaken, waits, sound}
+
+-- Time
+
+stays : (runs expired : Bool) (r : Row) → expired ≡ false → cond (runs && expired) r Stay ≡ Stay
+stays true expired r e = simp e
+stays false expired r e = refl
+
+-- With elapsed at most W no watchdog row is taken.
+pub in-time : (d : Device) (w at : ℕ) → elapsedOf at (d .DTimer) ≤ w → watchdogRow d w at ≡ Stay
+unfolding watchdogRow
+in-time d w at h = stays (d .runs) (expiredOf at (d .DTimer) w) (timeoutRow (d .state)) (le-ltb w (elapsedOf at (d .DTimer)) h)
+
+pub in-time-judged : (d : Device) (w at : ℕ) → elapsedOf at (d .DTimer) ≤ w → judged d w at ≡ d
+unfolding judged acted
+in-time-judged d w at h = rw (in-time d w at h)
+
+-- the watchdog's rows, and the rows of an SPDU that is taken, one by one
+module _ (d : Device) (w at : ℕ) (P : Device → Type 0) where
+  judged-case : P d → P (t30t31 d at) → P (judged d w at)
+  unfolding judged watchdogRow acted
+  judged-case stay late =
+      cond-case (λ (r : Row). P (acted d r at false false)) (d .runs && expiredOf at (d .DTimer) w)
+      (λ _. cond-case (λ (r : Row). P (acted d r at false false)) (eqb (d .state) 24) (λ _. late)
+      (λ _. cond-case (λ (r : Row). P (acted d r at false false)) (eqb (d .state) 26) (λ _. late) (λ _. stay)))
+      (λ _. stay)
+
+module _ (d : Device) (at : ℕ) (q : Request) (P : Device → Type 0) where
+  row-case : (commErr : Bool) → P (t22 (taken d q) at (q .setSD)) → P (t25 (taken d q) at) → P (t28 (taken d q) at) → P (t29 (taken d q) at commErr) → P (acted (taken d q) (arrivalRow d commErr) at (q .setSD) commErr)
+  unfolding arrivalRow acted
+  row-case commErr p22 p25 p28 p29 =
+      cond-case (λ (r : Row). P (acted (taken d q) r at (q .setSD) commErr)) (eqb (d .state) 26)
+      (λ _. cond-case (λ (r : Row). P (acted (taken d q) r at (q .setSD) commErr)) (commErr || not (eqb (d .SDcycles) 0)) (λ _. p29) (λ _. p28))
+      (λ _. cond-case (λ (r : Row). P (acted (taken d q) r at (q .setSD) commErr)) commErr (λ _. p25) (λ _. p22))
+
+-- Counts
+
+judged-mirrors : (d : Device) (w at : ℕ) → Mirrors d → Mirrors (judged d w at)
+unfolding t30t31
+judged-mirrors d w at h = judged-case d w at Mirrors h (λ _. refl)
+
+received-mirrors : (d : Device) (r : Row) (at : ℕ) (q : Request) → Mirrors d → Mirrors (received d r at q .device)
+unfolding received arrived quiet t22 t25 t28 t29
+received-mirrors d r at q h =
+    cond-case (λ (o : Outcome). Mirrors (o .device)) (isTaken d q)
+    (λ _. row-case d at q Mirrors (isFailure (checked d q)) (λ _. refl) (λ _. refl) (λ _. refl) (λ _. refl))
+    (λ _. h)
+
+-- DCount_i mirrors the last MCount taken, once there is a response,
+pub mirrored : (d : Device) (w : ℕ) (h : Happening) → Mirrors d → Mirrors (stepOf d w h .device)
+unfolding stepOf watched quiet
+mirrored d w (happening.Request at q) m = received-mirrors (judged d w at) (watchdogRow d w at) at q (judged-mirrors d w at m)
+mirrored d w (happening.Response at f) m = judged-mirrors d w at m
+mirrored d w (happening.Clock at) m = judged-mirrors d w at m
+mirrored d w (happening.Operator at setSD ack) m = judged-mirrors d w at m
+
+judged-count : (d : Device) (w at : ℕ) → judged d w at .MCount ≡ d .MCount
+unfolding t30t31
+judged-count d w at = judged-case d w at (λ (e : Device). e .MCount ≡ d .MCount) refl refl
+
+received-count : (d : Device) (r : Row) (at : ℕ) (q : Request) → received d r at q .device .MCount ≡ cond (isTaken d q) (q .MCount) (d .MCount)
+unfolding received arrived quiet t22 t25 t28 t29 taken
+received-count d r at q = cond-both (λ (o : Outcome) (n : ℕ). o .device .MCount ≡ n) (isTaken d q)
+    (row-case d at q (λ (e : Device). e .MCount ≡ q .MCount) (isFailure (checked d q)) refl refl refl refl)
+    refl
+
+-- which is that of the last SPDU taken.
+pub last-taken : (d : Device) (w : ℕ) (h : Happening) → stepOf d w h .device .MCount ≡ lastTaken d w h
+unfolding stepOf watched quiet lastTaken judged acted
+last-taken d w (happening.Request at q) = rw (judged-count d w at) at (received-count (judged d w at) (watchdogRow d w at) at q)
+last-taken d w (happening.Response at f) = judged-count d w at
+last-taken d w (happening.Clock at) = judged-count d w at
+last-taken d w (happening.Operator at setSD ack) = judged-count d w at
+
+-- Damage
+
+judged-waits : (d : Device) (w at : ℕ) → waits d ≡ true → waits (judged d w at) ≡ true
+unfolding t30t31
+judged-waits d w at h = judged-case d w at (λ (e : Device). waits e ≡ true) h refl
+
+received-waits : (d : Device) (r : Row) (at : ℕ) (q : Request) → waits d ≡ true → waits (received d r at q .device) ≡ true
+unfolding received arrived quiet t22 t25 t28 t29
+received-waits d r at q h =
+    cond-case (λ (o : Outcome). waits (o .device) ≡ true) (isTaken d q)
+    (λ _. row-case d at q (λ (e : Device). waits e ≡ true) (isFailure (checked d q)) refl refl refl refl)
+    (λ _. h)
+
+-- The FS-Device rests in 21, 24 or 26.
+pub waiting : (d : Device) (w : ℕ) (h : Happening) → waits d ≡ true → waits (stepOf d w h .device) ≡ true
+unfolding stepOf watched quiet
+waiting d w (happening.Request at q) e = received-waits (judged d w at) (watchdogRow d w at) at q (judged-waits d w at e)
+waiting d w (happening.Response at f) e = judged-waits d w at e
+waiting d w (happening.Clock at) e = judged-waits d w at e
+waiting d w (happening.Operator at setSD ack) e = judged-waits d w at e
+
+taken-there : (zero old wait : Bool) → wait ≡ true → zero ≡ false → old ≡ false → (not zero && wait && not old) ≡ true
+taken-there zero old wait a b c = simp (a, b, c)
+
+-- In a wait, every SPDU is taken that is neither all zero nor old.
+pub taken-unless : (d : Device) (q : Request) → waits d ≡ true → q .«all_zero» ≡ false → isOld d q ≡ false → isTaken d q ≡ true
+unfolding isTaken
+taken-unless d q h z o = taken-there (q .«all_zero») (isOld d q) (waits d) h z o
+
+fails : (s p c : Bool) → (s && p && c) ≡ false → isFailure (checkOf s p c) ≡ true
+fails true true c e = simp e
+fails true false c e = refl
+fails false p c e = refl
+
+-- not released, and safe values handed on
+abbrev Safely : Outcome → Type 0
+Safely o = (o .mark ≡ Safe) × (o .device .released ≡ false)
+
+error-safe : (d : Device) (at : ℕ) (q : Request) → acted (taken d q) (arrivalRow d true) at (q .setSD) true .released ≡ false
+unfolding arrivalRow acted t25 t29
+error-safe d at q = cond-case (λ (r : Row). acted (taken d q) r at (q .setSD) true .released ≡ false) (eqb (d .state) 26) (λ _. refl) (λ _. refl)
+
+arrived-safe : (d : Device) (r : Row) (at : ℕ) (q : Request) (failed : Check) → isFailure failed ≡ true → Safely (arrived d r at q failed)
+unfolding arrived
+arrived-safe d r at q failed e = rw e (simp (error-safe d at q), error-safe d at q)
+
+received-safe : (d : Device) (r : Row) (at : ℕ) (q : Request) → isTaken d q ≡ true → sound d q ≡ false → Safely (received d r at q)
+unfolding received checked
+received-safe d r at q t s = rw t (arrived-safe d r at q (checked d q) (fails (q .«signature_holds») (q .«port_holds») (countHolds d q) s))
+
+-- A damaged, misaddressed or miscounted SPDU leads to safe values in that call, unless it is all zero or old;
+pub damaged-safe : (d : Device) (w at : ℕ) (q : Request) → waits d ≡ true → q .«all_zero» ≡ false → isOld (judged d w at) q ≡ false → sound (judged d w at) q ≡ false → Safely (stepOf d w (happening.Request at q))
+unfolding stepOf
+damaged-safe d w at q h z o s =
+    received-safe (judged d w at) (watchdogRow d w at) at q (taken-unless (judged d w at) q (judged-waits d w at h) z o) s
+
+not-taken : (zero old wait : Bool) → (zero || old) ≡ true → (not zero && wait && not old) ≡ false
+not-taken true old wait e = refl
+not-taken false true true e = refl
+not-taken false true false e = refl
+not-taken false false wait e = no (cc)
+
+quiet-device : (d : Device) (r : Row) (at : ℕ) (q : Request) → (q .«all_zero» || isOld d q) ≡ true → received d r at q .device ≡ d
+unfolding received isTaken quiet
+quiet-device d r at q e = rw (not-taken (q .«all_zero») (isOld d q) (waits d) e)
+
+-- and then nothing but the watchdog acts.
+pub discarded : (d : Device) (w at : ℕ) (q : Request) → (q .«all_zero» || isOld (judged d w at) q) ≡ true → stepOf d w (happening.Request at q) .device ≡ judged d w at
+unfolding stepOf
+discarded d w at q e = quiet-device (judged d w at) (watchdogRow d w at) at q e

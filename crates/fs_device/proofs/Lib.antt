@@ -1,0 +1,3 @@
+pub mod Release
+pub mod Faults
+pub mod Moved

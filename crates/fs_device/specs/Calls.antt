@@ -1,0 +1,59 @@
+-- One happening at the FS-Device: the watchdog is judged with its reading, then an SPDU that came for this end. Assumes nothing.
+use Prim.Native.Nat.{ℕ}
+use mathlib.Core.Bool.{Bool, true, false, cond, not}
+use Rattle.scl.specs.Happenings.{isFailure, handedOn}
+use Rattle.scl.specs.declared.Happening.{Happening}
+use Rattle.scl.specs.declared.Happening.the-variants as happening
+use Rattle.scl.specs.declared.Check.{Check}
+use Rattle.scl.specs.declared.Check.the-variants as check
+use Rattle.spdu.specs.declared.Request.{Request}
+use Rattle.fs_device.specs.declared.Device.{Device}
+use Rattle.fs_device.specs.declared.Outcome.{Outcome}
+use Rattle.fs_device.specs.declared.Row.{Row}
+use Rattle.fs_device.specs.declared.Row.the-variants.{Stay}
+use Rattle.fs_device.specs.Table40.{watchdogRow, isOld, isTaken, checked, arrivalRow, taken, acted}
+
+-- the FS-Device once its watchdog has been judged
+unfoldable pub judged : Device → ℕ → ℕ → Device
+judged d w at = acted d (watchdogRow d w at) at false false
+
+-- no SPDU led to a row: the watchdog's row, and whether one came that was old
+unfoldable pub quiet : Device → Row → Bool → Outcome
+quiet d watchdog old = record {
+  device = d;
+  watchdog = watchdog;
+  arrival = Stay;
+  check = check.None;
+  old = old;
+  passed = false;
+  mark = handedOn false (d .released);
+}
+
+-- an SPDU that is taken (R18), with the check that failed first: guards read the count before it, actions the count that it gives
+unfoldable pub arrived : Device → Row → ℕ → Request → Check → Outcome
+arrived d watchdog at q failed =
+    let row = arrivalRow d (isFailure failed) in
+    let after = acted (taken d q) row at (q .setSD) (isFailure failed) in
+    record {
+      device = after;
+      watchdog = watchdog;
+      arrival = row;
+      check = failed;
+      old = false;
+      passed = not (isFailure failed);
+      mark = handedOn true (after .released);
+    }
+
+-- an SPDU received, at a device whose watchdog has been judged
+unfoldable pub received : Device → Row → ℕ → Request → Outcome
+received d watchdog at q = cond (isTaken d q) (arrived d watchdog at q (checked d q)) (quiet d watchdog (isOld d q))
+
+-- any other happening
+unfoldable pub watched : Device → ℕ → ℕ → Outcome
+watched d w at = quiet (judged d w at) (watchdogRow d w at) false
+
+unfoldable pub stepOf : Device → ℕ → Happening → Outcome
+stepOf d w (happening.Request at q) = received (judged d w at) (watchdogRow d w at) at q
+stepOf d w (happening.Response at response) = watched d w at
+stepOf d w (happening.Clock at) = watched d w at
+stepOf d w (happening.Operator at setSD ack) = watched d w at

@@ -1,0 +1,3 @@
+pub mod Table40
+pub mod Calls
+pub mod History

@@ -1,0 +1,86 @@
+// One happening at the FS-Device.
+ghost use mathlib.Core.Path.{_≡_};
+ghost use Rattle.fs_device.specs.Calls as calls;
+ghost use Rattle.fs_device.specs.Table40 as table40;
+use crate::Device;
+use crate::Outcome;
+use crate::Row;
+use crate::table40::acted;
+use crate::table40::arrival_row;
+use crate::table40::checked;
+use crate::table40::is_old;
+use crate::table40::is_taken;
+use crate::table40::taken;
+use crate::table40::watchdog_row;
+use scl::Check;
+use scl::Happening;
+use spdu::Request;
+
+fn quiet(d: Device, watchdog: Row, old: bool) -> Outcome
+    ensures { λ r. ⌜ r ≡ calls.quiet d watchdog old ⌝ }
+{
+    Outcome {
+        device: d,
+        watchdog,
+        arrival: Row::Stay,
+        check: Check::None,
+        old,
+        passed: false,
+        mark: scl::handed_on(false, d.released),
+    }
+}
+
+fn arrived(d: Device, watchdog: Row, at: u32, q: Request, failed: Check) -> Outcome
+    ensures { λ r. ⌜ r ≡ calls.arrived d watchdog at q failed ⌝ }
+{
+    let CommErr = scl::is_failure(failed);
+    let row = arrival_row(d, CommErr);
+    let after = acted(taken(d, q), row, at, q.setSD, CommErr);
+    Outcome {
+        device: after,
+        watchdog,
+        arrival: row,
+        check: failed,
+        old: false,
+        passed: !CommErr,
+        mark: scl::handed_on(true, after.released),
+    }
+}
+
+fn received(d: Device, watchdog: Row, at: u32, q: Request) -> Outcome
+    ensures { λ r. ⌜ r ≡ calls.received d watchdog at q ⌝ }
+{
+    if is_taken(d, q) {
+        arrived(d, watchdog, at, q, checked(d, q))
+    } else {
+        quiet(d, watchdog, is_old(d, q))
+    }
+}
+
+fn watched(d: Device, w: u16, at: u32) -> Outcome
+    ensures { λ r. ⌜ r ≡ calls.watched d w at ⌝ }
+{
+    let row = watchdog_row(d, w, at);
+    let judged = acted(d, row, at, false, false);
+    quiet(judged, row, false)
+}
+
+fn requested(d: Device, w: u16, at: u32, q: Request) -> Outcome
+    ensures { λ r. ⌜ r ≡ calls.received (calls.judged d w at) (table40.watchdogRow d w at) at q ⌝ }
+{
+    let row = watchdog_row(d, w, at);
+    let judged = acted(d, row, at, false, false);
+    received(judged, row, at, q)
+}
+
+// A happening at a device whose watchdog time is w.
+pub fn step(d: Device, w: u16, happening: Happening) -> Outcome
+    ensures { λ r. ⌜ r ≡ calls.stepOf d w happening ⌝ }
+{
+    match happening {
+        Happening::Response(at, _) => watched(d, w, at),
+        Happening::Request(at, q) => requested(d, w, at, q),
+        Happening::Clock(at) => watched(d, w, at),
+        Happening::Operator(at, _, _) => watched(d, w, at),
+    }
+}

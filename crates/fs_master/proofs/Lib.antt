@@ -1,0 +1,6 @@
+pub mod Rows
+pub mod Release
+pub mod Acknowledge
+pub mod Counts
+pub mod Faults
+pub mod Moved

@@ -1,0 +1,174 @@
+-- When the FS-Master releases. Assumes nothing.
+use Prim.Native.Nat.{ℕ, _+_, _≤_, _<_}
+use native.Mathlib.Omega.{arith}
+use mathlib.Core.Path.{_≡_, refl}
+use mathlib.Core.Bool.{Bool, true, false, cond, not, _&&_, _||_}
+use mathlib.Core.List.{List, [], _∷_}
+use mathlib.Core.Logic.{_⊎_, inl, inr, ⊎-elim}
+use lib.Dec.{eqb}
+use borrow.Author.Tests.{not-true}
+use Rattle.scl.specs.Happenings.{checkOf, isFailure, handedOn}
+use Rattle.scl.specs.declared.Happening.{Happening}
+use Rattle.scl.specs.declared.Happening.the-variants as happening
+use Rattle.spdu.specs.declared.Mark.{Mark}
+use Rattle.spdu.specs.declared.Mark.the-variants.{Fresh, GoesOn, Safe}
+use Rattle.scl.specs.declared.Check.{Check}
+use Rattle.scl.proofs.Cases.{cond-case, no, and-left, and-right, or-left, or-right}
+use Rattle.spdu.specs.declared.Response.{Response}
+use Rattle.fs_master.specs.declared.Master.{Master}
+use Rattle.fs_master.specs.declared.Outcome.{Outcome}
+use Rattle.fs_master.specs.declared.Row.{Row}
+use Rattle.fs_master.specs.declared.Row.the-variants.{Stay, T4, T7, T8, T11, T12, T13, T14}
+use Rattle.fs_master.specs.Table38.{watchdogRow, isOld, isExpected, isTaken, hasFaults, checked, from8, arrivalRow, taken, t4, t7, t8, t11, t12, t13, t14, acted, signalled, firstMaster}
+use Rattle.fs_master.specs.Calls.{judged, quiet, arrived, received, watched, operated, stepOf}
+use Rattle.fs_master.specs.History.{Releases, releasingRow, FreshBy, run, passes}
+use Rattle.fs_master.proofs.Rows.{timeout-case, row-case}
+
+goes-on : {A : Type 0} → GoesOn ≡ Fresh → A
+goes-on e = let z : _≡_ {A = ℕ} 0 1 = cc in absurd (omega arith)
+
+safe : {A : Type 0} → Safe ≡ Fresh → A
+safe e = let z : _≡_ {A = ℕ} 0 1 = cc in absurd (omega arith)
+
+quiet-not : (m : Master) (r : Row) (old : Bool) {A : Type 0} → quiet m r old .mark ≡ Fresh → A
+unfolding quiet
+quiet-not m r old {A} =
+    cond-case (λ (x : Mark). x ≡ Fresh → A) (not (m .released)) (λ _ e. safe e) (λ _ e. goes-on e)
+
+fresh-released : (b : Bool) → handedOn true b ≡ Fresh → b ≡ true
+fresh-released true e = refl
+fresh-released false e = safe e
+
+holds : (s p c : Bool) → isFailure (checkOf s p c) ≡ false → (s ≡ true) × ((p ≡ true) × (c ≡ true))
+holds true true true e = (refl, (refl, refl))
+holds true true false e = no e
+holds true false c e = no e
+holds false p c e = no e
+
+-- what is asked of a response that leads to a release
+record Asked (m : Master) (f : Response) (faults : Bool) (r : Row) : Type 0 where
+  pub row : r ≡ releasingRow m
+  pub none : faults ≡ false
+  pub not-set : f .SDset ≡ false
+  pub not-asked : m .«setSD_C» ≡ false
+  pub acknowledged : eqb (m .state) 7 ≡ true → (m .«ChFAck_C» && m .«ChFAck_C_e») ≡ true
+
+row-asks : (m : Master) (f : Response) (at : ℕ) (faults : Bool) → acted (taken m f) (arrivalRow m faults) at (f .SDset) .released ≡ true → Asked m f faults (arrivalRow m faults)
+unfolding acted taken t4 t7 t11 t12 t13
+row-asks m f at faults =
+    row-case (λ (r : Row). acted (taken m f) r at (f .SDset) .released ≡ true → Asked m f faults r) m faults
+    (λ s n e. let z = not-true (f .SDset || m .«setSD_C») e in record { row = simp s; none = n; not-set = or-left (f .SDset) (m .«setSD_C») z; not-asked = or-right (f .SDset) (m .«setSD_C») z; acknowledged = λ t. no (cc) })
+    (λ s t e. no (cc))
+    (λ s n a e. let z = not-true (f .SDset || m .«setSD_C») e in record { row = simp s; none = n; not-set = or-left (f .SDset) (m .«setSD_C») z; not-asked = or-right (f .SDset) (m .«setSD_C») z; acknowledged = λ t. a })
+    (λ s t e. no (cc))
+    (λ s n a e. no (cc))
+
+answered-fresh : (m : Master) (r : Row) (at : ℕ) (f : Response) → isTaken m f ≡ true → arrived m r at f (checked m f) .mark ≡ Fresh → Releases m f × (arrived m r at f (checked m f) .arrival ≡ releasingRow m)
+unfolding arrived checked
+answered-fresh m r at f t e =
+    let commErr = isFailure (checkOf (f .«signature_holds») (f .«port_holds») (isExpected m f)) in
+    let faults = hasFaults commErr f in
+    let a : Asked m f faults (arrivalRow m faults) = row-asks m f at faults (fresh-released (acted (taken m f) (arrivalRow m faults) at (f .SDset) .released) e) in
+    let h = holds (f .«signature_holds») (f .«port_holds») (isExpected m f) (or-left commErr (f .DCommErr) (or-left (commErr || f .DCommErr) (f .DTimeout) (a .none))) in (
+      record {
+        taken = t;
+        signature = h .0;
+        port = h .1 .0;
+        count = h .1 .1;
+        no-error = or-right commErr (f .DCommErr) (or-left (commErr || f .DCommErr) (f .DTimeout) (a .none));
+        no-timeout = or-right (commErr || f .DCommErr) (f .DTimeout) (a .none);
+        not-set = a .not-set;
+        not-asked = a .not-asked;
+        acknowledged = a .acknowledged;
+      },
+      a .row,
+    )
+
+received-fresh : (m : Master) (r : Row) (at : ℕ) (f : Response) → received m r at f .mark ≡ Fresh → Releases m f × (received m r at f .arrival ≡ releasingRow m)
+unfolding received
+received-fresh m r at f =
+    cond-case (λ (o : Outcome). o .mark ≡ Fresh → Releases m f × (o .arrival ≡ releasingRow m)) (isTaken m f) (answered-fresh m r at f) (λ _. quiet-not m r (isOld m f))
+
+-- Fresh octets are handed on in T4 and T11 alone, under the row's conditions;
+pub fresh-only : (m : Master) (w : ℕ) (h : Happening) → stepOf m w h .mark ≡ Fresh → FreshBy m w h
+unfolding stepOf FreshBy watched operated
+fresh-only m w (happening.Response at f) e = received-fresh (judged m w at) (watchdogRow m w at) at f e
+fresh-only m w (happening.Request at q) e = quiet-not (judged m w at) (watchdogRow m w at) false e
+fresh-only m w (happening.Clock at) e = quiet-not (judged m w at) (watchdogRow m w at) false e
+fresh-only m w (happening.Operator at setSD ack) e = quiet-not (signalled (judged m w at) setSD ack) (watchdogRow m w at) false e
+
+fresh-row : (m : Master) (f : Response) (at : ℕ) → Releases m f → acted (taken m f) (arrivalRow m false) at (f .SDset) .released ≡ true
+unfolding acted taken t4 t7 t11 t12 t13
+fresh-row m f at c =
+    row-case (λ (r : Row). acted (taken m f) r at (f .SDset) .released ≡ true) m false
+    (λ s n. simp (c .not-set, c .not-asked))
+    (λ s t. no (cc))
+    (λ s n a. simp (c .not-set, c .not-asked))
+    (λ s t. no (cc))
+    (λ s n a. no (cc (c .acknowledged s)))
+
+arrived-fresh : (m : Master) (r : Row) (at : ℕ) (f : Response) → Releases m f → arrived m r at f (checked m f) .mark ≡ Fresh
+unfolding arrived checked
+arrived-fresh m r at f c = simp (c .signature, c .port, c .count, c .no-error, c .no-timeout, fresh-row m f at c)
+
+-- and under these conditions they are.
+pub fresh-if : (m : Master) (w at : ℕ) (f : Response) → Releases (judged m w at) f → stepOf m w (happening.Response at f) .mark ≡ Fresh
+unfolding stepOf received
+fresh-if m w at f c = rw (c .taken) (arrived-fresh (judged m w at) (watchdogRow m w at) at f c)
+
+-- release ends or goes on
+judged-released : (m : Master) (w at : ℕ) → judged m w at .released ≡ true → m .released ≡ true
+unfolding judged acted t8 t14
+judged-released m w at =
+    timeout-case (λ (r : Row). acted m r at false .released ≡ true → m .released ≡ true) m w at (λ e. e) (λ _ e. no (cc)) (λ _ e. no (cc))
+
+handed-fresh : (b : Bool) → b ≡ true → handedOn true b ≡ Fresh
+handed-fresh b e = simp e
+
+received-released : (m : Master) (r : Row) (at : ℕ) (f : Response) → received m r at f .master .released ≡ true → (received m r at f .mark ≡ Fresh) ⊎ (m .released ≡ true)
+unfolding received arrived quiet
+received-released m r at f =
+    cond-case (λ (o : Outcome). o .master .released ≡ true → (o .mark ≡ Fresh) ⊎ (m .released ≡ true)) (isTaken m f) (λ _ e. inl (handed-fresh _ e)) (λ _ e. inr e)
+
+-- Where an end releases after a call, the call handed on fresh octets or it released before: no other row releases.
+pub release-begins : (m : Master) (w : ℕ) (h : Happening) → stepOf m w h .master .released ≡ true → (stepOf m w h .mark ≡ Fresh) ⊎ (m .released ≡ true)
+unfolding stepOf watched operated quiet signalled
+release-begins m w (happening.Response at f) e = ⊎-elim (λ x. inl x) (λ j. inr (judged-released m w at j)) (received-released (judged m w at) (watchdogRow m w at) at f e)
+release-begins m w (happening.Request at q) e = inr (judged-released m w at e)
+release-begins m w (happening.Clock at) e = inr (judged-released m w at e)
+release-begins m w (happening.Operator at setSD ack) e = inr (judged-released m w at e)
+
+passed-there : (m : Master) (r : Row) (at : ℕ) (f : Response) → Releases m f → received m r at f .passed ≡ true
+unfolding received arrived checked
+passed-there m r at f c = simp (c .taken, c .signature, c .port, c .count)
+
+fresh-passed : (m : Master) (w : ℕ) (h : Happening) → FreshBy m w h → stepOf m w h .passed ≡ true
+unfolding stepOf FreshBy
+fresh-passed m w (happening.Response at f) c = passed-there (judged m w at) (watchdogRow m w at) at f (c .0)
+fresh-passed m w (happening.Request at q) c = absurd c
+fresh-passed m w (happening.Clock at) c = absurd c
+fresh-passed m w (happening.Operator at setSD ack) c = absurd c
+
+one-pass : (passed : Bool) (n : ℕ) → passed ≡ true → 0 < cond passed 1 0 + n
+one-pass true n e = omega arith
+one-pass false n e = no (cc)
+
+more : (passed : Bool) (n : ℕ) → 0 < n → 0 < cond passed 1 0 + n
+more true n e = omega arith
+more false n e = omega arith
+
+passes-on : (m : Master) (w : ℕ) (h : Happening) (n : ℕ) (released : Bool) → stepOf m w h .master .released ≡ released → m .released ≡ false → (stepOf m w h .master .released ≡ false → 0 < n) → 0 < cond (stepOf m w h .passed) 1 0 + n
+passes-on m w h n true r s rest =
+    ⊎-elim (λ x. one-pass (stepOf m w h .passed) n (fresh-passed m w h (fresh-only m w h x))) (λ z. no (cc)) (release-begins m w h r)
+passes-on m w h n false r s rest = more (stepOf m w h .passed) n (rest r)
+
+-- An FS-Master that does not release goes on to release only after a response that passes;
+pub response-first : (m : Master) (w : ℕ) (hs : List Happening) → m .released ≡ false → run m w hs .released ≡ true → 0 < passes m w hs
+unfolding run passes
+response-first m w [] s e = no (cc)
+response-first m w (h ∷ hs) s e =
+    passes-on m w h (passes (stepOf m w h .master) w hs) (stepOf m w h .master .released) refl s (λ r. response-first (stepOf m w h .master) w hs r e)
+
+-- so nothing is released between an accepted block and the first response that passes.
+pub after-block : (at w : ℕ) (hs : List Happening) → run (firstMaster at) w hs .released ≡ true → 0 < passes (firstMaster at) w hs
+after-block at w hs e = response-first (firstMaster at) w hs refl e

@@ -1,0 +1,12 @@
+use Rattle.fs_master.specs.Table38.{t12}
+use borrow.Author.Needs.{needs}
+use Rattle.fs_master.proofs.table38.t12.Statement.{statement}
+use Rattle.fs_master.proofs.table38.t12.Tie as tie
+
+returns : tie.Need-returns
+unfolding t12
+returns c = simp (c .sample-from .ensures, c .before .count-after2 .ensures, c .before .before .count-after .ensures)
+
+pub t12-spec : {M : Type 1} → statement M
+t12-spec =
+    tie.close (tie.spec (λ c κs. search needs) (λ c κs. search needs) (λ c κs. search needs) returns)

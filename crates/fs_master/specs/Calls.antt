@@ -1,0 +1,62 @@
+-- One happening at the FS-Master: the watchdog is judged with its reading, then an SPDU that came for this end. Assumes nothing.
+use Prim.Native.Nat.{ℕ}
+use mathlib.Core.Bool.{Bool, true, false, cond, not}
+use Rattle.scl.specs.Happenings.{isFailure, handedOn}
+use Rattle.scl.specs.declared.Happening.{Happening}
+use Rattle.scl.specs.declared.Happening.the-variants as happening
+use Rattle.scl.specs.declared.Check.{Check}
+use Rattle.scl.specs.declared.Check.the-variants as check
+use Rattle.spdu.specs.declared.Response.{Response}
+use Rattle.fs_master.specs.declared.Master.{Master}
+use Rattle.fs_master.specs.declared.Outcome.{Outcome}
+use Rattle.fs_master.specs.declared.Row.{Row}
+use Rattle.fs_master.specs.declared.Row.the-variants.{Stay}
+use Rattle.fs_master.specs.Table38.{watchdogRow, isOld, isTaken, checked, hasFaults, arrivalRow, taken, acted, signalled}
+
+-- the FS-Master once its watchdog has been judged
+unfoldable pub judged : Master → ℕ → ℕ → Master
+judged m w at = acted m (watchdogRow m w at) at false
+
+-- no SPDU led to a row: the watchdog's row, and whether one came that was old
+unfoldable pub quiet : Master → Row → Bool → Outcome
+quiet m watchdog old = record {
+  master = m;
+  watchdog = watchdog;
+  arrival = Stay;
+  check = check.None;
+  old = old;
+  passed = false;
+  mark = handedOn false (m .released);
+}
+
+-- an SPDU that is taken (R14), with the check that failed first; it passes where none did (R14a)
+unfoldable pub arrived : Master → Row → ℕ → Response → Check → Outcome
+arrived m watchdog at f failed =
+    let row = arrivalRow m (hasFaults (isFailure failed) f) in
+    let after = acted (taken m f) row at (f .SDset) in
+    record {
+      master = after;
+      watchdog = watchdog;
+      arrival = row;
+      check = failed;
+      old = isOld m f;
+      passed = not (isFailure failed);
+      mark = handedOn true (after .released);
+    }
+
+-- an SPDU received, at a master whose watchdog has been judged
+unfoldable pub received : Master → Row → ℕ → Response → Outcome
+received m watchdog at f = cond (isTaken m f) (arrived m watchdog at f (checked m f)) (quiet m watchdog (isOld m f))
+
+-- the clock, and the other end's SPDU
+unfoldable pub watched : Master → ℕ → ℕ → Outcome
+watched m w at = quiet (judged m w at) (watchdogRow m w at) false
+
+unfoldable pub operated : Master → ℕ → ℕ → Bool → Bool → Outcome
+operated m w at setSD ack = quiet (signalled (judged m w at) setSD ack) (watchdogRow m w at) false
+
+unfoldable pub stepOf : Master → ℕ → Happening → Outcome
+stepOf m w (happening.Response at f) = received (judged m w at) (watchdogRow m w at) at f
+stepOf m w (happening.Request at request) = watched m w at
+stepOf m w (happening.Clock at) = watched m w at
+stepOf m w (happening.Operator at setSD ack) = operated m w at setSD ack

@@ -1,0 +1,3 @@
+pub mod Table38
+pub mod Calls
+pub mod History

@@ -1,0 +1,13 @@
+use borrow.Author.Tests.{eq-eqb, ne-eqb}
+use borrow.Author.Needs.{needs}
+use Rattle.scl.proofs.count_after.Statement.{statement}
+use Rattle.scl.proofs.count_after.Tie as tie
+
+returns : tie.Need-returns
+returns c = simp (eq-eqb _ _ (c .if1 .taken))
+
+returns-2 : tie.Need-returns-2
+returns-2 c = simp (ne-eqb _ _ (c .if1 .left))
+
+pub count-after-spec : {M : Type 1} → statement M
+count-after-spec = tie.close (tie.spec (λ c. search needs) returns returns-2)
