@@ -59,8 +59,10 @@ pub(crate) fn is_old(d: Device, q: Request) -> bool
 pub(crate) fn is_taken(d: Device, q: Request) -> bool
     ensures { λ r. ⌜ r ≡ table40.isTaken d q ⌝ }
 {
+    let waits = (d.state == 21) | (d.state == 24) | (d.state == 26);
+    let zeros = q.all_zero;
     let old = is_old(d, q);
-    !q.all_zero & ((d.state == 21) | (d.state == 24) | (d.state == 26)) & !old
+    !zeros & waits & !old
 }
 
 pub(crate) fn checked(d: Device, q: Request) -> Check

@@ -64,12 +64,14 @@ pub(crate) fn is_old(m: Master, f: Response) -> bool
 pub(crate) fn is_taken(m: Master, f: Response) -> bool
     ensures { λ r. ⌜ r ≡ table38.isTaken m f ⌝ }
 {
+    let in2 = m.state == 2;
+    let in5 = m.state == 5;
+    let in7 = m.state == 7;
+    let restarted = m.MCount == 0;
+    let zeros = f.all_zero;
     let expected = is_expected(m, f);
     let old = is_old(m, f);
-    let from2 = (m.state == 2) & expected;
-    let from5 = (m.state == 5) & !old;
-    let from7 = (m.state == 7) & (!old | (m.MCount == 0) & expected);
-    !f.all_zero & (from2 | from5 | from7)
+    !zeros & (in2 & expected | in5 & !old | in7 & (!old | restarted & expected))
 }
 
 pub(crate) fn checked(m: Master, f: Response) -> Check
