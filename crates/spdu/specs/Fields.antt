@@ -1,0 +1,77 @@
+-- 000 Tables 31 and 32: the control and the status octet taken apart, and what is read of a received SPDU. Reserved bits are not looked at (R8).
+-- Assumes nothing.
+use Prim.Native.Nat.{ℕ, _/_, _%_}
+use mathlib.Core.Bool.{Bool, false, cond}
+use mathlib.Core.List.{List}
+use lib.Dec.{eqb}
+use lib.ListN.{length}
+use Rattle.block.specs.declared.Params.{Params}
+use Rattle.spdu.specs.declared.Request.{Request}
+use Rattle.spdu.specs.declared.Response.{Response}
+use Rattle.spdu.specs.Places.{portOf, controlOf, signatureHolds, allZero}
+
+-- bits 5 to 7: MCount, or DCount_i
+abbrev pub countIn : ℕ → ℕ
+countIn x = x / 32 % 8
+
+-- bits 2, 1 and 0
+abbrev pub bit2 : ℕ → Bool
+bit2 x = eqb (x / 4 % 2) 1
+
+abbrev pub bit1 : ℕ → Bool
+bit1 x = eqb (x / 2 % 2) 1
+
+abbrev pub bit0 : ℕ → Bool
+bit0 x = eqb (x % 2) 1
+
+-- what the FS-Master reads, of an SPDU of SPDUInLength octets (Table 32); of another length: its length, count 0, every mark false
+abbrev pub responseBy : (ℕ → List ℕ → ℕ) → Params → List ℕ → Response
+responseBy sign p s =
+    let mode = p .«FSP_ProtMode» in
+    let status = controlOf mode s in
+    cond (eqb (length s) (p .SPDUInLength))
+    (record {
+      length = length s;
+      «DCount_i» = countIn status;
+      SDset = bit2 status;
+      DCommErr = bit1 status;
+      DTimeout = bit0 status;
+      «port_holds» = eqb (portOf mode s) (p .«FSP_Port»);
+      «signature_holds» = signatureHolds sign mode s;
+      «all_zero» = allZero s;
+    })
+    (record {
+      length = length s;
+      «DCount_i» = 0;
+      SDset = false;
+      DCommErr = false;
+      DTimeout = false;
+      «port_holds» = false;
+      «signature_holds» = false;
+      «all_zero» = false;
+    })
+
+-- what the FS-Device reads, of an SPDU of SPDUOutLength octets (Table 31)
+abbrev pub requestBy : (ℕ → List ℕ → ℕ) → Params → List ℕ → Request
+requestBy sign p s =
+    let mode = p .«FSP_ProtMode» in
+    let control = controlOf mode s in
+    cond (eqb (length s) (p .SPDUOutLength))
+    (record {
+      length = length s;
+      MCount = countIn control;
+      setSD = bit1 control;
+      ChFAckReq = bit0 control;
+      «port_holds» = eqb (portOf mode s) (p .«FSP_Port»);
+      «signature_holds» = signatureHolds sign mode s;
+      «all_zero» = allZero s;
+    })
+    (record {
+      length = length s;
+      MCount = 0;
+      setSD = false;
+      ChFAckReq = false;
+      «port_holds» = false;
+      «signature_holds» = false;
+      «all_zero» = false;
+    })

@@ -1,0 +1,5 @@
+pub mod Signature
+pub mod Places
+pub mod Fields
+pub mod Built
+pub mod Image

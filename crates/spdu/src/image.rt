@@ -1,0 +1,71 @@
+// The SPDU's place in the process data image, and the values handed on.
+ghost use mathlib.Core.Path.{_≡_};
+ghost use mathlib.Core.Bool.{true};
+ghost use Prim.Native.Nat.{_+_};
+ghost use lib.ListN.{length};
+ghost use Rattle.spdu.specs.Signature.{byTables};
+ghost use Rattle.spdu.specs.Built.{builtAs};
+ghost use Rattle.spdu.specs.Image as image;
+use crate::Mark;
+use crate::read::all_zero;
+use crate::read::process_octets;
+use answer::Answer;
+use block::Params;
+
+fn splitter_holds(p: Params, n: usize) -> bool
+    ensures { λ r. ⌜ r ≡ image.splitterHolds p n ⌝ }
+{
+    n == p.SPDUInLength as usize + p.InputDataLength as usize
+}
+
+// TAKEN, or 7 for an image of a wrong length.
+pub fn split(p: Params, octets: &[u8]) -> Answer
+    ensures { λ r. ⌜ r ≡ builtAs (image.splitterHolds p (length (now (octets .entry)))) ⌝ }
+{
+    if splitter_holds(p, octets.len()) {
+        Answer::Taken
+    } else {
+        Answer::Buffer
+    }
+}
+
+pub fn spdu_part(p: Params, octets: &[u8]) -> &[u8]
+    ensures { λ r. ⌜ now r ≡ image.spduPart p (now (octets .entry)) ⌝ }
+{
+    let m = p.SPDUInLength as usize;
+    if splitter_holds(p, octets.len()) {
+        &octets[..m]
+    } else {
+        &octets[..0]
+    }
+}
+
+pub fn other_part(p: Params, octets: &[u8]) -> &[u8]
+    ensures { λ r. ⌜ now r ≡ image.otherPart p (now (octets .entry)) ⌝ }
+{
+    let m = p.SPDUInLength as usize;
+    if splitter_holds(p, octets.len()) {
+        &octets[m..]
+    } else {
+        &octets[..0]
+    }
+}
+
+// What a call hands on: process octets of the SPDU, the safe values, or nothing.
+pub fn handed_on<'a>(mark: Mark, mode: u8, spdu: &'a [u8], safe: &'a [u8]) -> &'a [u8]
+    ensures { λ r. ⌜ now r ≡ image.handedOn mark mode (now (spdu .entry)) (now (safe .entry)) ⌝ }
+{
+    let n = process_octets(mode, spdu.len());
+    match mark {
+        Mark::Fresh => &spdu[..n],
+        Mark::Safe => safe,
+        Mark::GoesOn => &safe[..0],
+        Mark::Nothing => &safe[..0],
+    }
+}
+
+pub fn safe_values_hold(mode: u8, n: usize, safe: &[u8]) -> bool
+    ensures { λ r. ⌜ r ≡ image.safeValuesHold mode n (now (safe .entry)) ⌝ }
+{
+    (safe.len() == process_octets(mode, n)) & all_zero(safe)
+}

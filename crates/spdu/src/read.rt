@@ -1,0 +1,151 @@
+// Reading a received SPDU.
+ghost use mathlib.Core.Path.{_≡_};
+ghost use Prim.Native.Nat.{_+_, _≤_};
+ghost use lib.ListN.{getD, take, length};
+ghost use Rattle.spdu.specs.Signature.{byTables, replaced};
+ghost use Rattle.block.specs.Octets as octets;
+ghost use Rattle.spdu.specs.Places as places;
+ghost use Rattle.spdu.specs.Fields as fields;
+use crate::Request;
+use crate::Response;
+use block::Params;
+
+// How many process octets an SPDU of n octets has.
+pub(crate) fn process_octets(mode: u8, n: usize) -> usize
+    ensures { λ r. ⌜ r ≡ places.processOctets mode n ⌝ }
+{
+    let safety = ranges::safety_octets(mode) as usize;
+    if safety <= n { n - safety } else { 0 }
+}
+
+fn octet(s: &[u8], at: usize) -> u8
+    ensures { λ r. ⌜ r ≡ getD (now (s .entry)) at 0 ⌝ }
+{
+    if at < s.len() { s[at] } else { 0 }
+}
+
+fn first(s: &[u8], n: usize) -> &[u8]
+    ensures { λ r. ⌜ now r ≡ take n (now (s .entry)) ⌝ }
+{
+    if n <= s.len() { &s[..n] } else { s }
+}
+
+// The signature that the contents compute, before a zero is replaced.
+pub(crate) fn sign(short: &[u16; 256], long: &[u32; 256], mode: u8, contents: &[u8]) -> u32
+    ensures { λ r. ⌜ r ≡ byTables (now (short .entry)) (now (long .entry)) mode (now (contents .entry)) ⌝ }
+{
+    if mode == 1 {
+        signature::signature16_by(short, 1, contents) as u32
+    } else {
+        signature::signature32_by(long, 1, contents)
+    }
+}
+
+pub(crate) fn replace(x: u32) -> u32
+    ensures { λ r. ⌜ r ≡ replaced x ⌝ }
+{
+    if x == 0 { 1 } else { x }
+}
+
+fn word(a: u8, b: u8) -> u16
+    ensures { λ r. ⌜ r ≡ octets.word a b ⌝ }
+{
+    a as u16 * 256 + b as u16
+}
+
+// The signature that an SPDU carries, from `at` on.
+fn carried(mode: u8, s: &[u8], at: usize) -> u32
+    requires { ⌜ at ≤ 1000 ⌝ }
+    ensures { λ r. ⌜ r ≡ places.carriedAt mode (now (s .entry)) at ⌝ }
+{
+    let high = word(octet(s, at), octet(s, at + 1));
+    if mode == 1 {
+        return high as u32;
+    }
+    let low = word(octet(s, at + 2), octet(s, at + 3));
+    high as u32 * 65536 + low as u32
+}
+
+pub(crate) fn all_zero(s: &[u8]) -> bool
+    ensures { λ r. ⌜ r ≡ places.allZero (now (s .entry)) ⌝ }
+{
+    let mut i = 0;
+    while i < s.len() {
+        if s[i] != 0 {
+            return false;
+        }
+        i += 1;
+    }
+    true
+}
+
+fn signature_holds(short: &[u16; 256], long: &[u32; 256], mode: u8, s: &[u8]) -> bool
+    requires { ⌜ length (now s) ≤ 255 ⌝ }
+    ensures { λ r. ⌜ r ≡ places.signatureHolds (byTables (now (short .entry)) (now (long .entry))) mode (now (s .entry)) ⌝ }
+{
+    let end = process_octets(mode, s.len()) + 2;
+    let right = replace(sign(short, long, mode, first(s, end)));
+    carried(mode, s, end) == right
+}
+
+pub fn read_response_by(short: &[u16; 256], long: &[u32; 256], p: Params, s: &[u8]) -> Response
+    ensures { λ r. ⌜ r ≡ fields.responseBy (byTables (now (short .entry)) (now (long .entry))) p (now (s .entry)) ⌝ }
+{
+    let mode = p.FSP_ProtMode;
+    if s.len() == p.SPDUInLength as usize {
+        let signature_holds = signature_holds(short, long, mode, s);
+        let at = process_octets(mode, s.len());
+        let status = octet(s, at + 1);
+        Response {
+            length: s.len(),
+            DCount_i: status / 32 % 8,
+            SDset: status / 4 % 2 == 1,
+            DCommErr: status / 2 % 2 == 1,
+            DTimeout: status % 2 == 1,
+            port_holds: octet(s, at) == p.FSP_Port,
+            signature_holds,
+            all_zero: all_zero(s),
+        }
+    } else {
+        Response {
+            length: s.len(),
+            DCount_i: 0,
+            SDset: false,
+            DCommErr: false,
+            DTimeout: false,
+            port_holds: false,
+            signature_holds: false,
+            all_zero: false,
+        }
+    }
+}
+
+pub fn read_request_by(short: &[u16; 256], long: &[u32; 256], p: Params, s: &[u8]) -> Request
+    ensures { λ r. ⌜ r ≡ fields.requestBy (byTables (now (short .entry)) (now (long .entry))) p (now (s .entry)) ⌝ }
+{
+    let mode = p.FSP_ProtMode;
+    if s.len() == p.SPDUOutLength as usize {
+        let signature_holds = signature_holds(short, long, mode, s);
+        let at = process_octets(mode, s.len());
+        let control = octet(s, at + 1);
+        Request {
+            length: s.len(),
+            MCount: control / 32 % 8,
+            setSD: control / 2 % 2 == 1,
+            ChFAckReq: control % 2 == 1,
+            port_holds: octet(s, at) == p.FSP_Port,
+            signature_holds,
+            all_zero: all_zero(s),
+        }
+    } else {
+        Request {
+            length: s.len(),
+            MCount: 0,
+            setSD: false,
+            ChFAckReq: false,
+            port_holds: false,
+            signature_holds: false,
+            all_zero: false,
+        }
+    }
+}
