@@ -82,4 +82,40 @@ struct whakelouna_block_answer {
 // The answer to a parameter block for a port.
 struct whakelouna_block_answer whakelouna_judge_block(const uint8_t *octets, size_t length, uint8_t port);
 
+// What an FS-Master reads of an SPDU (000 Table 32). Of another length than SPDUInLength: its length, count 0, every mark false.
+struct whakelouna_response {
+    size_t length;
+    uint8_t DCount_i;
+    bool SDset;
+    bool DCommErr;
+    bool DTimeout;
+    bool port_holds;
+    bool signature_holds;
+    bool all_zero;
+};
+
+// What an FS-Device reads of an SPDU (000 Table 31), likewise with SPDUOutLength.
+struct whakelouna_request {
+    size_t length;
+    uint8_t MCount;
+    bool setSD;
+    bool ChFAckReq;
+    bool port_holds;
+    bool signature_holds;
+    bool all_zero;
+};
+
+// Each takes both signature tables. A build fills `out`, which overlaps with nothing else that is passed, and returns 0; where a length is
+// wrong it writes nothing and returns 7.
+struct whakelouna_response whakelouna_read_response_by(const uint16_t short_table[256], const uint32_t long_table[256],
+    struct whakelouna_params params, const uint8_t *octets, size_t length);
+struct whakelouna_request whakelouna_read_request_by(const uint16_t short_table[256], const uint32_t long_table[256],
+    struct whakelouna_params params, const uint8_t *octets, size_t length);
+uint8_t whakelouna_build_request_by(const uint16_t short_table[256], const uint32_t long_table[256],
+    struct whakelouna_params params, uint8_t MCount, bool setSD, bool ChFAckReq,
+    const uint8_t *process, size_t process_length, uint8_t *out, size_t out_length);
+uint8_t whakelouna_build_response_by(const uint16_t short_table[256], const uint32_t long_table[256],
+    struct whakelouna_params params, bool responded, uint8_t DCount_i, bool SDset, bool DCommErr, bool DTimeout,
+    const uint8_t *process, size_t process_length, uint8_t *out, size_t out_length);
+
 #endif

@@ -55,6 +55,46 @@ extern "C" {
     fn whakelouna_counted(histogram: Histogram, watchdog: u16, sample: u16) -> Histogram;
     fn whakelouna_trend_of(histogram: Histogram) -> Trend;
     fn whakelouna_judge_block(octets: *const u8, length: usize, port: u8) -> BlockAnswer;
+    fn whakelouna_read_request_by(
+        short: &[u16; 256],
+        long: &[u32; 256],
+        params: Params,
+        octets: *const u8,
+        length: usize,
+    ) -> Request;
+    fn whakelouna_read_response_by(
+        short: &[u16; 256],
+        long: &[u32; 256],
+        params: Params,
+        octets: *const u8,
+        length: usize,
+    ) -> Response;
+    fn whakelouna_build_request_by(
+        short: &[u16; 256],
+        long: &[u32; 256],
+        params: Params,
+        mcount: u8,
+        set_sd: bool,
+        chf_ack_req: bool,
+        process: *const u8,
+        process_length: usize,
+        out: *mut u8,
+        out_length: usize,
+    ) -> u8;
+    fn whakelouna_build_response_by(
+        short: &[u16; 256],
+        long: &[u32; 256],
+        params: Params,
+        responded: bool,
+        dcount_i: u8,
+        sd_set: bool,
+        dcomm_err: bool,
+        dtimeout: bool,
+        process: *const u8,
+        process_length: usize,
+        out: *mut u8,
+        out_length: usize,
+    ) -> u8;
 }
 
 #[repr(C)]
@@ -66,6 +106,7 @@ pub struct BlockAnswer {
 
 /// The elements of 000 Table 22 that an accepted block hands on.
 #[repr(C)]
+#[derive(Clone, Copy)]
 pub struct Params {
     pub port_mode: u8,
     pub validation_backup: u8,
@@ -92,6 +133,31 @@ pub struct Params {
     pub total_of_out_octets: u8,
     pub total_of_out_int16: u8,
     pub total_of_out_int32: u8,
+}
+
+/// What an FS-Device reads of an SPDU.
+#[repr(C)]
+pub struct Request {
+    pub length: usize,
+    pub mcount: u8,
+    pub set_sd: bool,
+    pub chf_ack_req: bool,
+    pub port_holds: bool,
+    pub signature_holds: bool,
+    pub all_zero: bool,
+}
+
+/// What an FS-Master reads of an SPDU.
+#[repr(C)]
+pub struct Response {
+    pub length: usize,
+    pub dcount_i: u8,
+    pub sd_set: bool,
+    pub dcomm_err: bool,
+    pub dtimeout: bool,
+    pub port_holds: bool,
+    pub signature_holds: bool,
+    pub all_zero: bool,
 }
 
 // No exported function asks anything of the values it is given, so each call below needs only
@@ -151,4 +217,82 @@ pub fn trend_of(histogram: Histogram) -> Trend {
 
 pub fn judge_block(octets: &[u8], port: u8) -> BlockAnswer {
     unsafe { whakelouna_judge_block(octets.as_ptr(), octets.len(), port) }
+}
+
+/// The two signature tables.
+pub struct Tables {
+    short: [u16; 256],
+    long: [u32; 256],
+}
+
+impl Tables {
+    pub fn new() -> Tables {
+        let mut tables = Tables { short: [0; 256], long: [0; 256] };
+        table16(&mut tables.short);
+        table32(&mut tables.long);
+        tables
+    }
+
+    pub fn read_request(&self, params: Params, octets: &[u8]) -> Request {
+        let Tables { short, long } = self;
+        unsafe { whakelouna_read_request_by(short, long, params, octets.as_ptr(), octets.len()) }
+    }
+
+    pub fn read_response(&self, params: Params, octets: &[u8]) -> Response {
+        let Tables { short, long } = self;
+        unsafe { whakelouna_read_response_by(short, long, params, octets.as_ptr(), octets.len()) }
+    }
+
+    /// `marks` are setSD and ChFAckReq.
+    pub fn build_request(
+        &self,
+        params: Params,
+        mcount: u8,
+        marks: [bool; 2],
+        process: &[u8],
+        out: &mut [u8],
+    ) -> u8 {
+        unsafe {
+            whakelouna_build_request_by(
+                &self.short,
+                &self.long,
+                params,
+                mcount,
+                marks[0],
+                marks[1],
+                process.as_ptr(),
+                process.len(),
+                out.as_mut_ptr(),
+                out.len(),
+            )
+        }
+    }
+
+    /// `marks` are SDset, DCommErr and DTimeout.
+    pub fn build_response(
+        &self,
+        params: Params,
+        responded: bool,
+        dcount_i: u8,
+        marks: [bool; 3],
+        process: &[u8],
+        out: &mut [u8],
+    ) -> u8 {
+        unsafe {
+            whakelouna_build_response_by(
+                &self.short,
+                &self.long,
+                params,
+                responded,
+                dcount_i,
+                marks[0],
+                marks[1],
+                marks[2],
+                process.as_ptr(),
+                process.len(),
+                out.as_mut_ptr(),
+                out.len(),
+            )
+        }
+    }
 }

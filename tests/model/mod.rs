@@ -5,3 +5,4 @@
 pub mod block;
 pub mod histogram;
 pub mod signature;
+pub mod spdu;

@@ -3,3 +3,4 @@
 mod blocks;
 mod histograms;
 mod signatures;
+mod spdus;
