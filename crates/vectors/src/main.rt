@@ -4,9 +4,11 @@ mod histograms;
 mod print;
 mod printed;
 mod signatures;
+mod spdus;
 
 fn main() {
     signatures::run();
     blocks::run();
     histograms::run();
+    spdus::run();
 }

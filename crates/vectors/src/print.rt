@@ -63,3 +63,28 @@ pub(crate) fn answered(name: &[u8], number: u8, offset: u8, paper_number: u8, pa
         text(b"\n");
     }
 }
+
+fn octet(ours: u8, paper: u8) {
+    hex(ours as u64, 2);
+    if ours != paper {
+        text(b" DIFFERS from ");
+        hex(paper as u64, 2);
+        text(b" ");
+    }
+}
+
+// Octets as we compute them, each beside the octet that it should be.
+pub(crate) fn octets(name: &[u8], ours: &[u8], paper: &[u8]) {
+    text(name);
+    text(b": ");
+    if ours.len() != paper.len() {
+        text(b"DIFFERS in length\n");
+        return;
+    }
+    let mut i = 0;
+    while i < paper.len() {
+        octet(ours[i], paper[i]);
+        i += 1;
+    }
+    text(b"\n");
+}
