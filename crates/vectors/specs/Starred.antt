@@ -4,6 +4,7 @@ use mathlib.Core.List.{List, [], _∷_, map}
 use Prim.Native.Nat.{ℕ}
 use Rattle.gf2.specs.Generators.{generator16, generator32}
 use Rattle.signature.specs.Lookup.{division}
+use Rattle.scl.specs.Time.{elapsedOf}
 
 -- what our definitions give, and what the paper says
 unfoldable pub rows : List (ℕ × ℕ)
@@ -17,6 +18,8 @@ rows =
     -- long table: entry 1 is 0xF4ACFB13, entry 2 is 0x1DF50D35
     ∷ (division 32 generator32 8 1, 0xF4ACFB13)
     ∷ (division 32 generator32 8 2, 0x1DF50D35)
+    -- elapsed from 4294967290 to 4 is 10
+    ∷ (elapsedOf 4 4294967290, 10)
     ∷ []
 
 -- the claim: in every row the two are equal
