@@ -2,4 +2,5 @@
 // Each test program uses only some of it.
 #![allow(dead_code)]
 
+pub mod machines;
 pub mod signature;
