@@ -118,4 +118,47 @@ uint8_t whakelouna_build_response_by(const uint16_t short_table[256], const uint
     struct whakelouna_params params, bool responded, uint8_t DCount_i, bool SDset, bool DCommErr, bool DTimeout,
     const uint8_t *process, size_t process_length, uint8_t *out, size_t out_length);
 
+// The SCL machines of 000 Tables 38 and 40, and what a call does: rows by 000's numbers, 0 for none; the check that failed first (0 none,
+// 1 signature, 2 port number, 3 count); the mark (0 fresh octets, 1 release goes on, 2 safe values).
+struct whakelouna_master {
+    uint8_t state, MCount;
+    bool setSD, SDset_S, ChFAckReq, ChFAckReq_S, ChFAck_C_e, setSD_C, ChFAck_C, previous;
+    uint8_t carried, awaited;
+    uint32_t MTimer;
+    bool runs;
+    uint32_t sample;
+    bool released;
+};
+
+struct whakelouna_device {
+    uint8_t state, SDcycles, CommErrCount, TimeoutCount;
+    bool DCommErr, DTimeout, SDset, setSD_DC, ChFAckReq_DC;
+    uint8_t DCount_i, MCount;
+    uint32_t DTimer;
+    bool runs, released, responded;
+};
+
+struct whakelouna_master_outcome {
+    struct whakelouna_master master;
+    uint8_t watchdog, arrival, check;
+    bool old, passed;
+    uint8_t mark;
+};
+
+struct whakelouna_device_outcome {
+    struct whakelouna_device device;
+    uint8_t watchdog, arrival, check;
+    bool old, passed;
+    uint8_t mark;
+};
+
+uint32_t whakelouna_elapsed(uint32_t now, uint32_t since);
+struct whakelouna_master whakelouna_master_first(uint32_t at);
+struct whakelouna_master_outcome whakelouna_master_response(struct whakelouna_master master, uint16_t w, uint32_t at, struct whakelouna_response response);
+struct whakelouna_master_outcome whakelouna_master_clock(struct whakelouna_master master, uint16_t w, uint32_t at);
+struct whakelouna_master_outcome whakelouna_master_operator(struct whakelouna_master master, uint16_t w, uint32_t at, bool setSD_C, bool ChFAck_C);
+struct whakelouna_device whakelouna_device_first(uint32_t at);
+struct whakelouna_device_outcome whakelouna_device_request(struct whakelouna_device device, uint16_t w, uint32_t at, struct whakelouna_request request);
+struct whakelouna_device_outcome whakelouna_device_clock(struct whakelouna_device device, uint16_t w, uint32_t at);
+
 #endif

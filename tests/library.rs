@@ -95,6 +95,14 @@ extern "C" {
         out: *mut u8,
         out_length: usize,
     ) -> u8;
+    fn whakelouna_elapsed(now: u32, since: u32) -> u32;
+    fn whakelouna_master_first(at: u32) -> Master;
+    fn whakelouna_master_response(m: Master, w: u16, at: u32, response: Response) -> MasterOutcome;
+    fn whakelouna_master_clock(m: Master, w: u16, at: u32) -> MasterOutcome;
+    fn whakelouna_master_operator(m: Master, w: u16, at: u32, a: bool, b: bool) -> MasterOutcome;
+    fn whakelouna_device_first(at: u32) -> Device;
+    fn whakelouna_device_request(d: Device, w: u16, at: u32, request: Request) -> DeviceOutcome;
+    fn whakelouna_device_clock(d: Device, w: u16, at: u32) -> DeviceOutcome;
 }
 
 #[repr(C)]
@@ -137,6 +145,7 @@ pub struct Params {
 
 /// What an FS-Device reads of an SPDU.
 #[repr(C)]
+#[derive(Clone, Copy)]
 pub struct Request {
     pub length: usize,
     pub mcount: u8,
@@ -149,6 +158,7 @@ pub struct Request {
 
 /// What an FS-Master reads of an SPDU.
 #[repr(C)]
+#[derive(Clone, Copy)]
 pub struct Response {
     pub length: usize,
     pub dcount_i: u8,
@@ -158,6 +168,73 @@ pub struct Response {
     pub port_holds: bool,
     pub signature_holds: bool,
     pub all_zero: bool,
+}
+
+#[repr(C)]
+#[derive(Clone, Copy, Debug, PartialEq)]
+#[allow(non_snake_case)]
+pub struct Master {
+    pub state: u8,
+    pub MCount: u8,
+    pub setSD: bool,
+    pub SDset_S: bool,
+    pub ChFAckReq: bool,
+    pub ChFAckReq_S: bool,
+    pub ChFAck_C_e: bool,
+    pub setSD_C: bool,
+    pub ChFAck_C: bool,
+    pub previous: bool,
+    pub carried: u8,
+    pub awaited: u8,
+    pub MTimer: u32,
+    pub runs: bool,
+    pub sample: u32,
+    pub released: bool,
+}
+
+#[repr(C)]
+#[derive(Clone, Copy, Debug, PartialEq)]
+#[allow(non_snake_case)]
+pub struct Device {
+    pub state: u8,
+    pub SDcycles: u8,
+    pub CommErrCount: u8,
+    pub TimeoutCount: u8,
+    pub DCommErr: bool,
+    pub DTimeout: bool,
+    pub SDset: bool,
+    pub setSD_DC: bool,
+    pub ChFAckReq_DC: bool,
+    pub DCount_i: u8,
+    pub MCount: u8,
+    pub DTimer: u32,
+    pub runs: bool,
+    pub released: bool,
+    pub responded: bool,
+}
+
+#[repr(C)]
+#[derive(Clone, Copy, Debug, PartialEq)]
+pub struct MasterOutcome {
+    pub master: Master,
+    pub watchdog: u8,
+    pub arrival: u8,
+    pub check: u8,
+    pub old: bool,
+    pub passed: bool,
+    pub mark: u8,
+}
+
+#[repr(C)]
+#[derive(Clone, Copy, Debug, PartialEq)]
+pub struct DeviceOutcome {
+    pub device: Device,
+    pub watchdog: u8,
+    pub arrival: u8,
+    pub check: u8,
+    pub old: bool,
+    pub passed: bool,
+    pub mark: u8,
 }
 
 // No exported function asks anything of the values it is given, so each call below needs only
@@ -217,6 +294,38 @@ pub fn trend_of(histogram: Histogram) -> Trend {
 
 pub fn judge_block(octets: &[u8], port: u8) -> BlockAnswer {
     unsafe { whakelouna_judge_block(octets.as_ptr(), octets.len(), port) }
+}
+
+pub fn elapsed(now: u32, since: u32) -> u32 {
+    unsafe { whakelouna_elapsed(now, since) }
+}
+
+pub fn master_first(at: u32) -> Master {
+    unsafe { whakelouna_master_first(at) }
+}
+
+pub fn master_response(m: Master, w: u16, at: u32, response: Response) -> MasterOutcome {
+    unsafe { whakelouna_master_response(m, w, at, response) }
+}
+
+pub fn master_clock(m: Master, w: u16, at: u32) -> MasterOutcome {
+    unsafe { whakelouna_master_clock(m, w, at) }
+}
+
+pub fn master_operator(m: Master, w: u16, at: u32, set_sd_c: bool, ack_c: bool) -> MasterOutcome {
+    unsafe { whakelouna_master_operator(m, w, at, set_sd_c, ack_c) }
+}
+
+pub fn device_first(at: u32) -> Device {
+    unsafe { whakelouna_device_first(at) }
+}
+
+pub fn device_request(d: Device, w: u16, at: u32, request: Request) -> DeviceOutcome {
+    unsafe { whakelouna_device_request(d, w, at, request) }
+}
+
+pub fn device_clock(d: Device, w: u16, at: u32) -> DeviceOutcome {
+    unsafe { whakelouna_device_clock(d, w, at) }
 }
 
 /// The two signature tables.

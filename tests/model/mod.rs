@@ -4,5 +4,6 @@
 
 pub mod block;
 pub mod histogram;
+pub mod machines;
 pub mod signature;
 pub mod spdu;

@@ -2,5 +2,6 @@
 // A slice is passed as a pointer and a length (include/whakelouna.h).
 mod blocks;
 mod histograms;
+mod machines;
 mod signatures;
 mod spdus;

@@ -18,7 +18,7 @@ use Rattle.spdu.proofs.Buffers.{and-parts}
 use Rattle.spdu.proofs.Join.{joined}
 
 -- an SPDU is as long as its process octets and H
-spdu-length : (sign : ℕ → List ℕ → ℕ) (mode : ℕ) (process : List ℕ) (port control : ℕ) → length (spduWith sign mode process port control) ≡ length process + safetyOctets mode
+pub spdu-length : (sign : ℕ → List ℕ → ℕ) (mode : ℕ) (process : List ℕ) (port control : ℕ) → length (spduWith sign mode process port control) ≡ length process + safetyOctets mode
 spdu-length sign mode process port control =
     let x = replaced (sign mode (contentsWith process port control)) in
     length-append (contentsWith process port control) (signatureOctets mode x)

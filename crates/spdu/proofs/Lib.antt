@@ -10,3 +10,4 @@ pub mod Modes
 pub mod ReadBack
 pub mod Demand3
 pub mod Needed
+pub mod Back

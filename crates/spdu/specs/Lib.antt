@@ -4,3 +4,4 @@ pub mod Fields
 pub mod Built
 pub mod Image
 pub mod Flips
+pub mod RoundTrip

@@ -2,8 +2,9 @@
 use mathlib.Core.Path.{refl}
 use Rattle.signature.specs.Signature.{shiftIn, shiftInAll}
 use Rattle.signature.specs.Lookup.{division}
+use Rattle.scl.specs.Time.{elapsedOf}
 use Rattle.vectors.specs.Starred.{rows, Agree}
 
 pub starred : Agree rows
-unfolding rows division shiftInAll shiftIn
+unfolding rows elapsedOf division shiftInAll shiftIn
 starred = refl

@@ -5,6 +5,7 @@ use Prim.Native.Nat.{ℕ}
 use Rattle.gf2.specs.Generators.{generator16, generator32}
 use Rattle.signature.specs.Lookup.{division}
 use Rattle.histogram.specs.Samples.{binOf}
+use Rattle.scl.specs.Time.{elapsedOf}
 
 -- what our definitions give, and what the paper says
 unfoldable pub rows : List (ℕ × ℕ)
@@ -24,6 +25,8 @@ rows =
     ∷ (binOf 99 99, 31)
     ∷ (binOf 1 1, 16)
     ∷ (binOf 65535 65535, 31)
+    -- elapsed from 4294967290 to 4 is 10
+    ∷ (elapsedOf 4 4294967290, 10)
     ∷ []
 
 -- the claim: in every row the two are equal
