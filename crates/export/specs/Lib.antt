@@ -1,2 +1,3 @@
+pub mod Benches
 pub mod Outcomes
 pub mod Told

@@ -1,0 +1,120 @@
+-- Each call's answer is the number that 01's table gives, and a refused call changes nothing. Assumes nothing.
+use Prim.Native.Nat.{ℕ, _<_}
+use mathlib.Core.Path.{_≡_, refl, sym, ap, _∙_}
+use mathlib.Core.Logic.{_↔_}
+use mathlib.Core.Bool.{Bool, true, false, cond, not}
+use mathlib.Core.List.{List, [], _∷_, _++_}
+use lib.Dec.{eqb}
+use lib.ListN.{length}
+use Rattle.answer.specs.declared.Answer.{Answer}
+use Rattle.answer.specs.declared.Answer.the-variants.{Taken}
+use Rattle.answer.specs.Answers.{isTaken}
+use Rattle.answer.specs.Rules.{Rule, answerBy, answerAt, First, Kept}
+use Rattle.answer.proofs.Exact.{given-exactly, taken-exactly}
+use Rattle.block.specs.declared.Params.{Params}
+use Rattle.block.specs.Rules.{judged}
+use Rattle.spdu.specs.declared.Request.{Request}
+use Rattle.spdu.specs.declared.Response.{Response}
+use Rattle.spdu.specs.Signature.{byBits}
+use Rattle.spdu.specs.Fields.{responseBy, requestBy}
+use Rattle.spdu.specs.Built.{buffersHold}
+use Rattle.spdu.specs.Image as image
+use Rattle.scl.specs.declared.Happening.{Happening}
+use Rattle.scl.proofs.Cases.{cond-case, no}
+use Rattle.bench.specs.declared.Port.{Port}
+use Rattle.bench.specs.declared.Bench.{Bench}
+use Rattle.bench.specs.Ports.{portAt, stepOf, silent}
+use Rattle.bench.specs.Calls.{callRules, responseRules, requestRules, clockRules, operatorRules, settled, parametersAs, placed, responseAt, requestAt, clockAt, operatorAt, parametersAt}
+use Rattle.bench.specs.Images.{composeAnswer, buildAnswer, splitAnswer}
+use Rattle.bench.specs.Shown.{trendOf, binsOf, masterOf, deviceOf}
+use Rattle.bench.specs.History.{Call, SetParameters, ReceiveResponse, ReceiveRequest, Clock, Operator, Compose, BuildResponse, Split, Trend, Bins, ShowMaster, ShowDevice, portOf, rulesOf, answerOf, after, history}
+use Rattle.bench.proofs.Taken.{taken-is, on-buffers}
+use Rattle.bench.proofs.Index.{placed-refused}
+
+-- ---- the answer
+
+pub settled-answer : (p : Port) (a : Answer) (h : Happening) → settled p a h .reply .answer ≡ a
+unfolding settled stepOf silent
+settled-answer p a h = go (isTaken a) refl
+  where
+    go : (b : Bool) → isTaken a ≡ b → cond b (stepOf p h) (record { port = p; reply = silent a }) .reply .answer ≡ a
+    go true e = taken-is a e
+    go false e = refl
+
+response-length : (p : Params) (s : List ℕ) → responseBy byBits p s .length ≡ length s
+response-length p s = cond-case (λ (r : Response). r .length ≡ length s) (eqb (length s) (p .SPDUInLength)) (λ _. refl) (λ _. refl)
+
+request-length : (p : Params) (s : List ℕ) → requestBy byBits p s .length ≡ length s
+request-length p s = cond-case (λ (r : Request). r .length ≡ length s) (eqb (length s) (p .SPDUOutLength)) (λ _. refl) (λ _. refl)
+
+pub answer-is : (b : Bench) (c : Call) → answerOf b c ≡ answerBy Taken (rulesOf (portAt b (portOf c)) c)
+unfolding answerOf rulesOf portOf placed parametersAs silent trendOf binsOf masterOf deviceOf composeAnswer buildAnswer splitAnswer
+answer-is b (SetParameters port at octets) = refl
+answer-is b (ReceiveResponse port at spdu safe) =
+    let p = portAt b port in
+    settled-answer p _ _ ∙ ap (λ (n : ℕ). answerBy Taken (responseRules port p n safe)) (response-length (p .params) spdu)
+answer-is b (ReceiveRequest port at spdu safe) =
+    let p = portAt b port in
+    settled-answer p _ _ ∙ ap (λ (n : ℕ). answerBy Taken (requestRules port p n safe)) (request-length (p .params) spdu)
+answer-is b (Clock port at safeIn safeOut) = settled-answer (portAt b port) _ _
+answer-is b (Operator port at setSD ack safe) = settled-answer (portAt b port) _ _
+answer-is b (Compose port process other octets) =
+    let p = portAt b port in
+    on-buffers (answerBy Taken (callRules port p)) (image.composerHolds (p .params) (length process) (length other) (length octets))
+answer-is b (BuildResponse port process out) =
+    let p = portAt b port in
+    on-buffers (answerBy Taken (callRules port p)) (buffersHold (p .params .«FSP_ProtMode») (p .params .SPDUInLength) (length process) (length out))
+answer-is b (Split port octets) =
+    let p = portAt b port in
+    on-buffers (answerBy Taken (callRules port p)) (image.splitterHolds (p .params) (length octets))
+answer-is b (Trend port) = refl
+answer-is b (Bins port) = refl
+answer-is b (ShowMaster port) = refl
+answer-is b (ShowDevice port) = refl
+
+-- ---- exactly one answer, for every call: the first rule's that is broken, and TAKEN where none is
+
+abbrev pub Exactly : List Rule → Type 0
+Exactly rules =
+    ((isTaken (answerBy Taken rules) ≡ true) ↔ Kept rules)
+    × ((i : ℕ) → i < length rules → (answerBy Taken rules ≡ answerAt rules i) ↔ First rules i)
+
+pub exactly : (p : Port) (c : Call) → Exactly (rulesOf p c)
+unfolding rulesOf
+exactly p (SetParameters port at octets) = (taken-exactly _ tt tt, given-exactly _ tt tt)
+exactly p (ReceiveResponse port at spdu safe) = (taken-exactly _ tt tt, given-exactly _ tt tt)
+exactly p (ReceiveRequest port at spdu safe) = (taken-exactly _ tt tt, given-exactly _ tt tt)
+exactly p (Clock port at safeIn safeOut) = (taken-exactly _ tt tt, given-exactly _ tt tt)
+exactly p (Operator port at setSD ack safe) = (taken-exactly _ tt tt, given-exactly _ tt tt)
+exactly p (Compose port process other octets) = (taken-exactly _ tt tt, given-exactly _ tt tt)
+exactly p (BuildResponse port process out) = (taken-exactly _ tt tt, given-exactly _ tt tt)
+exactly p (Split port octets) = (taken-exactly _ tt tt, given-exactly _ tt tt)
+exactly p (Trend port) = (taken-exactly _ tt tt, given-exactly _ tt tt)
+exactly p (Bins port) = (taken-exactly _ tt tt, given-exactly _ tt tt)
+exactly p (ShowMaster port) = (taken-exactly _ tt tt, given-exactly _ tt tt)
+exactly p (ShowDevice port) = (taken-exactly _ tt tt, given-exactly _ tt tt)
+
+-- ---- a refused call changes nothing
+
+pub refused-same : (b : Bench) (c : Call) → isTaken (answerOf b c) ≡ false → after b c ≡ b
+unfolding after answerOf placed
+refused-same b (SetParameters port at octets) e = placed-refused b port (parametersAt port (portAt b port) at octets) e
+refused-same b (ReceiveResponse port at spdu safe) e =
+    let p = portAt b port in placed-refused b port (responseAt port p at (responseBy byBits (p .params) spdu) safe) e
+refused-same b (ReceiveRequest port at spdu safe) e =
+    let p = portAt b port in placed-refused b port (requestAt port p at (requestBy byBits (p .params) spdu) safe) e
+refused-same b (Clock port at safeIn safeOut) e = placed-refused b port (clockAt port (portAt b port) at safeIn safeOut) e
+refused-same b (Operator port at setSD ack safe) e = placed-refused b port (operatorAt port (portAt b port) at setSD ack safe) e
+refused-same b (Compose port process other octets) e = refl
+refused-same b (BuildResponse port process out) e = refl
+refused-same b (Split port octets) e = refl
+refused-same b (Trend port) e = refl
+refused-same b (Bins port) e = refl
+refused-same b (ShowMaster port) e = refl
+refused-same b (ShowDevice port) e = refl
+
+-- so it could be left out of the history with no difference afterwards
+pub left-out : (later : List Call) (c : Call) (past : List Call) → isTaken (answerOf (history past) c) ≡ false → history (later ++ c ∷ past) ≡ history (later ++ past)
+unfolding history
+left-out [] c past e = refused-same (history past) c e
+left-out (d ∷ later) c past e = ap (λ (b : Bench). after b d) (left-out later c past e)

@@ -1,0 +1,153 @@
+-- After every list of calls from the new bench, a port holds what 01 says of the calls since its last accepted block. Assumes nothing.
+use Prim.Native.Nat.{ℕ, _≤_}
+use native.Mathlib.Omega.{arith}
+use mathlib.Core.Path.{_≡_, refl, sym, ap, ap₂, _∙_}
+use mathlib.Core.Bool.{Bool, true, false, cond, not, _&&_}
+use mathlib.Core.List.{List, [], _∷_, _++_, append-nil}
+use lib.Dec.{eqb, leb}
+use lib.ListN.{length}
+use borrow.Author.Tests.{eqb-true, leb-true}
+use Rattle.answer.specs.declared.Answer.the-variants.{Taken}
+use Rattle.answer.specs.Answers.{isTaken}
+use Rattle.answer.specs.Rules.{Kept, answerBy}
+use Rattle.ranges.specs.Fields.{outside}
+use Rattle.block.specs.declared.Params.{Params}
+use Rattle.block.specs.Table22.{paramsOf}
+use Rattle.spdu.specs.Signature.{byBits}
+use Rattle.spdu.specs.Fields.{responseBy, requestBy}
+use Rattle.scl.specs.Time.{elapsedOf}
+use Rattle.scl.specs.Happenings.{readingOf}
+use Rattle.scl.specs.declared.Happening.{Happening}
+use Rattle.scl.specs.declared.Happening.the-variants as happening
+use Rattle.scl.proofs.Cases.{no, and-right}
+use Rattle.fs_master.specs.declared.Master.{Master}
+use Rattle.fs_master.specs.Calls as masters
+use Rattle.fs_device.specs.declared.Device.{Device}
+use Rattle.fs_device.specs.Calls as devices
+use Rattle.histogram.specs.declared.Histogram.{Histogram}
+use Rattle.histogram.specs.Samples.{Within, none, Holds}
+use Rattle.histogram.specs.Counted.{clearedOf, countedOf}
+use Rattle.histogram.proofs.Counting.{cleared-holds, counted-holds}
+use Rattle.histogram.proofs.Samples.{within-more}
+use Rattle.bench.specs.declared.Port.{Port}
+use Rattle.bench.specs.declared.Bench.{Bench}
+use Rattle.bench.specs.Ports.{newPort, acceptedPort, portAt, sentAt, tallied, stepOf}
+use Rattle.bench.specs.History.{Call, SetParameters, ReceiveResponse, ReceiveRequest, Clock, Operator, Compose, BuildResponse, Split, Trend, Bins, ShowMaster, ShowDevice, portOf, rulesOf, answerOf, after, history, Since, never, since, goesOn, extended, sinceBlock, masterAfter, deviceAfter, timeOf, isSample, samples, StandsSince, Stands}
+use Rattle.bench.proofs.Index.{new-at}
+use Rattle.bench.proofs.Answers.{answer-is, exactly, refused-same}
+use Rattle.bench.proofs.AtPort.{eight, takenAt, taken-at, other-at}
+use Rattle.bench.proofs.Samples.{time-is, sample-is}
+
+-- ---- one happening
+
+-- the histogram after it, of a port with this FS-Master and this W
+stepped : Histogram → Happening → Master → ℕ → Histogram
+stepped k h m w =
+    let o = masters.stepOf m w h in
+    tallied k w (o .passed && not (o .old)) (elapsedOf (readingOf h) (sentAt m (o .watchdog) (readingOf h)))
+
+module _ (at w : ℕ) (past : List Happening) (h : Happening) (k : Histogram) where
+  counts : stepped k h (masterAfter at w past) w ≡ cond (isSample at w past h) (countedOf k w (timeOf at w past h)) k
+  unfolding tallied stepped
+  counts =
+      let o = masters.stepOf (masterAfter at w past) w h in
+      ap (λ (t : ℕ). tallied k w (o .passed && not (o .old)) t) (time-is at w past h)
+      ∙ ap (λ (b : Bool). cond b (countedOf k w (timeOf at w past h)) k) (sym (sample-is at w past h))
+
+  in-time : isSample at w past h ≡ true → timeOf at w past h ≤ w
+  in-time e = leb-true (timeOf at w past h) w (and-right (masters.stepOf (masterAfter at w past) w h .passed && not (masters.stepOf (masterAfter at w past) w h .old)) (leb (timeOf at w past h) w) (sym (sample-is at w past h) ∙ e))
+
+  module _ (small : w ≤ 65535) (within : Within w (samples at w past)) (holds : Holds w (samples at w past) k) where
+    one-more : (b : Bool) → isSample at w past h ≡ b → Holds w (samples at w past ++ cond b (timeOf at w past h ∷ []) []) (cond b (countedOf k w (timeOf at w past h)) k)
+    one-more true e = counted-holds small within holds (timeOf at w past h) (in-time e)
+    one-more false e = rw append-nil holds
+
+    one-within : (b : Bool) → isSample at w past h ≡ b → Within w (samples at w past ++ cond b (timeOf at w past h ∷ []) [])
+    one-within true e = within-more (timeOf at w past h) within (in-time e)
+    one-within false e = rw append-nil within
+
+    counted-on : Holds w (samples at w (h ∷ past)) (stepped k h (masterAfter at w past) w)
+    unfolding samples
+    counted-on = rw counts (one-more (isSample at w past h) refl)
+
+    within-on : Within w (samples at w (h ∷ past))
+    unfolding samples
+    within-on = one-within (isSample at w past h) refl
+
+module _ (p : Port) (at : ℕ) (params : Params) (past : List Happening) (s : StandsSince p at params past) (h : Happening) where
+  watchdog-is : p .params .«FSP_WatchdogTime» ≡ params .«FSP_WatchdogTime»
+  watchdog-is = ap (λ (q : Params). q .«FSP_WatchdogTime») (s .parameters)
+
+  step-stands : StandsSince (stepOf p h .port) at params (h ∷ past)
+  unfolding stepOf masterAfter deviceAfter stepped
+  step-stands = record {
+    running = s .running;
+    parameters = s .parameters;
+    master = ap₂ (λ (m : Master) (w : ℕ). masters.stepOf m w h .master) (s .master) watchdog-is;
+    device = ap₂ (λ (d : Device) (w : ℕ). devices.stepOf d w h .device) (s .device) watchdog-is;
+    counted =
+        rw (ap₂ (stepped (p .histogram) h) (s .master) watchdog-is)
+        (counted-on at (params .«FSP_WatchdogTime») past h (p .histogram) (s .small) (s .within) (s .counted));
+    within = within-on at (params .«FSP_WatchdogTime») past h (p .histogram) (s .small) (s .within) (s .counted);
+    small = s .small;
+  }
+
+-- ---- one call that is not refused
+
+kept-true : (b : Bool) → not b ≡ false → b ≡ true
+kept-true true e = refl
+kept-true false e = no (cc)
+
+goes-stands : (p : Port) (h : Params → Happening) (s : Since) → p .running ≡ true → Stands p s → Stands (stepOf p (h (p .params)) .port) (goesOn s h)
+unfolding Stands goesOn newPort
+goes-stands p h never r z = let e : true ≡ false = sym r ∙ ap (λ (q : Port). q .running) z in no e
+goes-stands p h (since at params past) r z =
+    rw (ap h (z .parameters)) (step-stands p at params past z (h params))
+
+small-watchdog : (octets : List ℕ) (port : ℕ) (p : Port) (at : ℕ) → Kept (rulesOf p (SetParameters port at octets)) → paramsOf octets .«FSP_WatchdogTime» ≤ 65535
+unfolding rulesOf
+small-watchdog octets port p at k = let w = paramsOf octets .«FSP_WatchdogTime» in leb-true w 65535 (and-right (leb 1 w) (leb w 65535) (kept-true (leb 1 w && leb w 65535) (k .each 14)))
+
+taken-stands : (p : Port) (s : Since) (c : Call) → Kept (rulesOf p c) → Stands p s → Stands (takenAt p c) (extended s c)
+unfolding takenAt extended rulesOf Stands acceptedPort masterAfter deviceAfter samples
+taken-stands p s (SetParameters port at octets) k z = record {
+  running = refl;
+  parameters = refl;
+  master = refl;
+  device = refl;
+  counted = cleared-holds (paramsOf octets .«FSP_WatchdogTime»);
+  within = none;
+  small = small-watchdog octets port p at k;
+}
+taken-stands p s (ReceiveResponse port at spdu safe) k z = goes-stands p (λ q. happening.Response at (responseBy byBits q spdu)) s (kept-true (p .running) (k .each 1)) z
+taken-stands p s (ReceiveRequest port at spdu safe) k z = goes-stands p (λ q. happening.Request at (requestBy byBits q spdu)) s (kept-true (p .running) (k .each 1)) z
+taken-stands p s (Clock port at safeIn safeOut) k z = goes-stands p (λ q. happening.Clock at) s (kept-true (p .running) (k .each 1)) z
+taken-stands p s (Operator port at setSD ack safe) k z = goes-stands p (λ q. happening.Operator at setSD ack) s (kept-true (p .running) (k .each 1)) z
+taken-stands p s (Compose port process other octets) k z = z
+taken-stands p s (BuildResponse port process out) k z = z
+taken-stands p s (Split port octets) k z = z
+taken-stands p s (Trend port) k z = z
+taken-stands p s (Bins port) k z = z
+taken-stands p s (ShowMaster port) k z = z
+taken-stands p s (ShowDevice port) k z = z
+
+-- ---- every history
+
+module _ (q : ℕ) (known : outside 1 8 q ≡ false) where
+  call-stands : (past : List Call) (c : Call) → portOf c ≡ q → isTaken (answerOf (history past) c) ≡ true → Stands (portAt (history past) q) (sinceBlock q past) → Stands (portAt (after (history past) c) q) (extended (sinceBlock q past) c)
+  call-stands past c z t s =
+      let b = history past in
+      let kept : Kept (rulesOf (portAt b q) c) = exactly (portAt b q) c .0 .0 (sym (ap isTaken (answer-is b c ∙ ap (λ (n : ℕ). answerBy Taken (rulesOf (portAt b n) c)) z)) ∙ t) in
+      let later : portAt (after b c) q ≡ takenAt (portAt b q) c = rw z at (taken-at b (eight past) c (rw z known) t) in
+      rw later (taken-stands (portAt b q) (sinceBlock q past) c kept s)
+
+  -- Demand 2: bins, total, sum, lowest, highest and both ends are those of the calls since the last accepted block.
+  pub stands : (past : List Call) → Stands (portAt (history past) q) (sinceBlock q past)
+  unfolding history sinceBlock Stands
+  stands [] = new-at q
+  stands (c ∷ past) = go (eqb (portOf c) q) refl (isTaken (answerOf (history past) c)) refl (stands past)
+    where
+      go : (same : Bool) → eqb (portOf c) q ≡ same → (t : Bool) → isTaken (answerOf (history past) c) ≡ t → Stands (portAt (history past) q) (sinceBlock q past) → Stands (portAt (after (history past) c) q) (cond (same && t) (extended (sinceBlock q past) c) (sinceBlock q past))
+      go false e t f s = rw (other-at (history past) (eight past) q known c e) s
+      go true e false f s = rw (refused-same (history past) c f) s
+      go true e true f s = call-stands past c (eqb-true (portOf c) q e) f s

@@ -1,0 +1,20 @@
+use borrow.Author.Tests.{lt-ltb, le-ltb, le-leb, lt-leb, eq-eqb, ne-eqb}
+use Rattle.bench.specs.Ports.{tallied}
+use borrow.Author.Needs.{needs}
+use Rattle.bench.proofs.at_port.tallied.Statement.{statement}
+use Rattle.bench.proofs.at_port.tallied.Tie as tie
+
+returns : tie.Need-returns
+unfolding tallied
+returns c = simp (le-leb _ _ (c .before .if2 .taken), c .before .before .if1 .taken) (c .counted .ensures)
+
+returns-2 : tie.Need-returns-2
+unfolding tallied
+returns-2 c = simp (lt-leb _ _ (c .if2 .left), c .before .if1 .taken)
+
+returns-3 : tie.Need-returns-3
+unfolding tallied
+returns-3 c = simp (c .if1 .left)
+
+pub tallied-spec : {M : Type 1} → statement M
+tallied-spec = tie.close (tie.spec (λ c. search needs) (λ c κs. search needs) returns returns-2 returns-3)

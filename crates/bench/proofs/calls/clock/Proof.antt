@@ -1,0 +1,10 @@
+use borrow.Author.Tests.{lt-ltb, le-ltb, le-leb, lt-leb, eq-eqb, ne-eqb}
+use borrow.Author.Needs.{needs}
+use Rattle.bench.proofs.calls.clock.Statement.{statement}
+use Rattle.bench.proofs.calls.clock.Tie as tie
+
+returns : tie.Need-returns
+returns c = simp (c .placed .ensures, c .before .clock-at .ensures, c .before .before .port-at .ensures)
+
+pub clock-spec : {M : Type 1} → statement M
+clock-spec = tie.close (tie.spec (λ c κs. search needs) (λ c κs. search needs) (λ c κs. search needs) returns)

@@ -1,0 +1,25 @@
+use borrow.Author.Tests.{lt-ltb, le-ltb, le-leb, lt-leb, eq-eqb, ne-eqb}
+use Rattle.bench.specs.Images.{splitAnswer}
+use Rattle.bench.specs.Ports.{portAt, noPort}
+use borrow.Author.Needs.{needs}
+use Rattle.bench.proofs.images.split.Statement.{statement}
+use Rattle.bench.proofs.images.split.Tie as tie
+
+returns : tie.Need-returns
+unfolding splitAnswer portAt noPort
+returns c = simp (simp (c .before .before .is-taken .ensures, c .before .before .before .call-answer .ensures, c .before .before .before .before .port-at .ensures) at (c .before .if1 .taken), c .split .ensures, c .before .before .is-taken .ensures, c .before .before .before .call-answer .ensures, c .before .before .before .before .port-at .ensures)
+
+returns-2 : tie.Need-returns-2
+unfolding splitAnswer portAt noPort
+returns-2 c = simp (simp (c .before .is-taken .ensures, c .before .before .call-answer .ensures, c .before .before .before .port-at .ensures) at (c .if1 .left), c .before .is-taken .ensures, c .before .before .call-answer .ensures, c .before .before .before .port-at .ensures)
+
+pub split-spec : {M : Type 1} → statement M
+split-spec =
+    tie.close
+    (tie.spec
+    (λ c κs. search needs)
+    (λ c κs. search needs)
+    (λ c κs. search needs)
+    (λ c κs. search needs)
+    returns
+    returns-2)

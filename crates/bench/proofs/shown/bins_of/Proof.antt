@@ -1,0 +1,15 @@
+use borrow.Author.Tests.{lt-ltb, le-ltb, le-leb, lt-leb, eq-eqb, ne-eqb}
+use Rattle.bench.specs.Ports.{portAt}
+use Rattle.bench.specs.Shown.{binsOf}
+use borrow.Author.Needs.{needs}
+use Rattle.bench.proofs.shown.bins_of.Statement.{statement}
+use Rattle.bench.proofs.shown.bins_of.Tie as tie
+
+returns : tie.Need-returns
+unfolding binsOf portAt
+returns c = simp (c .frozen .ensures, c .before .call-answer .ensures, c .before .before .before .before .seen .ensures, c .before .before .before .before .before .port-at .ensures)
+
+pub bins-of-spec : {M : Type 1} → statement M
+bins-of-spec =
+    tie.close
+    (tie.spec (λ c κs. search needs) (λ c κs. search needs) (λ c κs. search needs) (λ c κs. search needs) returns)

@@ -1,0 +1,298 @@
+-- Every list of calls from the new bench, good, bad or malformed, and what 01 says of it: the words in which the theorems of proofs/ are stated.
+-- In every list here the latest stands first. Assumes nothing.
+use Prim.Native.Nat.{ℕ, _+_, _≤_, _<_}
+use mathlib.Core.Path.{_≡_}
+use mathlib.Core.Bool.{Bool, true, false, cond, not, _&&_, _||_}
+use mathlib.Core.List.{List, [], _∷_, _++_}
+use lib.Dec.{eqb, leb}
+use lib.ListN.{length}
+use Rattle.answer.specs.declared.Answer.{Answer}
+use Rattle.answer.specs.declared.Answer.the-variants.{Buffer}
+use Rattle.answer.specs.Answers.{isTaken}
+use Rattle.answer.specs.Rules.{Rule, rule}
+use Rattle.block.specs.declared.Params.{Params}
+use Rattle.block.specs.Table22.{paramsOf}
+use Rattle.block.specs.Rules.{rulesOn}
+use Rattle.spdu.specs.Signature.{byBits}
+use Rattle.spdu.specs.Fields.{responseBy, requestBy}
+use Rattle.spdu.specs.Built.{buffersHold}
+use Rattle.spdu.specs.Image as image
+use Rattle.scl.specs.Time.{elapsedOf}
+use Rattle.scl.specs.Happenings.{readingOf}
+use Rattle.scl.specs.declared.Happening.{Happening}
+use Rattle.scl.specs.declared.Happening.the-variants as happening
+use Rattle.fs_master.specs.declared.Master.{Master}
+use Rattle.fs_master.specs.declared.Row.{Row}
+use Rattle.fs_master.specs.declared.Row.the-variants.{Stay, T4, T7, T8, T11, T12, T13, T14}
+use Rattle.fs_master.specs.Table38 as table38
+use Rattle.fs_master.specs.Calls as masters
+use Rattle.fs_master.specs.History.{sound}
+use Rattle.fs_device.specs.declared.Device.{Device}
+use Rattle.fs_device.specs.Table40.{firstDevice}
+use Rattle.fs_device.specs.Calls as devices
+use Rattle.histogram.specs.Samples.{Within, Holds}
+use Rattle.bench.specs.declared.Port.{Port}
+use Rattle.bench.specs.declared.Bench.{Bench}
+use Rattle.bench.specs.Ports.{newPort, newBench, portAt}
+use Rattle.bench.specs.Calls as calls
+use Rattle.bench.specs.Images.{composeAnswer, buildAnswer, splitAnswer}
+use Rattle.bench.specs.Shown.{trendRules, trendOf, binsOf, masterOf, deviceOf}
+
+-- ---- Calls
+
+-- every call, with what is lent to it
+pub data Call : Type 0 where
+  SetParameters : (port at : ℕ) (octets : List ℕ) → Call
+  ReceiveResponse : (port at : ℕ) (spdu safe : List ℕ) → Call
+  ReceiveRequest : (port at : ℕ) (spdu safe : List ℕ) → Call
+  Clock : (port at : ℕ) (safeIn safeOut : List ℕ) → Call
+  Operator : (port at : ℕ) (setSD ack : Bool) (safe : List ℕ) → Call
+  Compose : (port : ℕ) (process other octets : List ℕ) → Call
+  BuildResponse : (port : ℕ) (process out : List ℕ) → Call
+  Split : (port : ℕ) (octets : List ℕ) → Call
+  Trend : (port : ℕ) → Call
+  Bins : (port : ℕ) → Call
+  ShowMaster : (port : ℕ) → Call
+  ShowDevice : (port : ℕ) → Call
+
+-- the port addressed
+unfoldable pub portOf : Call → ℕ
+portOf (SetParameters port at octets) = port
+portOf (ReceiveResponse port at spdu safe) = port
+portOf (ReceiveRequest port at spdu safe) = port
+portOf (Clock port at safeIn safeOut) = port
+portOf (Operator port at setSD ack safe) = port
+portOf (Compose port process other octets) = port
+portOf (BuildResponse port process out) = port
+portOf (Split port octets) = port
+portOf (Trend port) = port
+portOf (Bins port) = port
+portOf (ShowMaster port) = port
+portOf (ShowDevice port) = port
+
+-- 01's table: the rules on a call in their order, p being the port addressed
+unfoldable pub rulesOf : Port → Call → List Rule
+rulesOf p (SetParameters port at octets) = rulesOn octets port
+rulesOf p (ReceiveResponse port at spdu safe) = calls.responseRules port p (length spdu) safe
+rulesOf p (ReceiveRequest port at spdu safe) = calls.requestRules port p (length spdu) safe
+rulesOf p (Clock port at safeIn safeOut) = calls.clockRules port p safeIn safeOut
+rulesOf p (Operator port at setSD ack safe) = calls.operatorRules port p safe
+rulesOf p (Compose port process other octets) = calls.callRules port p ++ (rule (not (image.composerHolds (p .params) (length process) (length other) (length octets))) Buffer ∷ [])
+rulesOf p (BuildResponse port process out) = calls.callRules port p ++ (rule (not (buffersHold (p .params .«FSP_ProtMode») (p .params .SPDUInLength) (length process) (length out))) Buffer ∷ [])
+rulesOf p (Split port octets) = calls.callRules port p ++ (rule (not (image.splitterHolds (p .params) (length octets))) Buffer ∷ [])
+rulesOf p (Trend port) = trendRules port p
+rulesOf p (Bins port) = calls.callRules port p
+rulesOf p (ShowMaster port) = calls.callRules port p
+rulesOf p (ShowDevice port) = calls.callRules port p
+
+-- the answer that the call's contract gives
+unfoldable pub answerOf : Bench → Call → Answer
+answerOf b (SetParameters port at octets) = calls.setParameters b port at octets .reply .answer
+answerOf b (ReceiveResponse port at spdu safe) = calls.receiveResponse b port at spdu safe .reply .answer
+answerOf b (ReceiveRequest port at spdu safe) = calls.receiveRequest b port at spdu safe .reply .answer
+answerOf b (Clock port at safeIn safeOut) = calls.clock b port at safeIn safeOut .reply .answer
+answerOf b (Operator port at setSD ack safe) = calls.operator b port at setSD ack safe .reply .answer
+answerOf b (Compose port process other octets) = composeAnswer port (portAt b port) process other octets
+answerOf b (BuildResponse port process out) = buildAnswer port (portAt b port) process out
+answerOf b (Split port octets) = splitAnswer port (portAt b port) octets
+answerOf b (Trend port) = trendOf port (portAt b port) .answer
+answerOf b (Bins port) = binsOf port (portAt b port) .answer
+answerOf b (ShowMaster port) = masterOf port (portAt b port) .answer
+answerOf b (ShowDevice port) = deviceOf port (portAt b port) .answer
+
+-- the bench after the call; calls without a reading return none, so it stays (R25)
+unfoldable pub after : Bench → Call → Bench
+after b (SetParameters port at octets) = calls.setParameters b port at octets .bench
+after b (ReceiveResponse port at spdu safe) = calls.receiveResponse b port at spdu safe .bench
+after b (ReceiveRequest port at spdu safe) = calls.receiveRequest b port at spdu safe .bench
+after b (Clock port at safeIn safeOut) = calls.clock b port at safeIn safeOut .bench
+after b (Operator port at setSD ack safe) = calls.operator b port at setSD ack safe .bench
+after b (Compose port process other octets) = b
+after b (BuildResponse port process out) = b
+after b (Split port octets) = b
+after b (Trend port) = b
+after b (Bins port) = b
+after b (ShowMaster port) = b
+after b (ShowDevice port) = b
+
+unfoldable pub history : List Call → Bench
+history [] = newBench
+history (c ∷ past) = after (history past) c
+
+-- the calls that address a port
+unfoldable pub addressing : ℕ → List Call → List Call
+addressing q [] = []
+addressing q (c ∷ past) = cond (eqb (portOf c) q) (c ∷ addressing q past) (addressing q past)
+
+-- ---- A port since its last accepted block
+
+-- the block's reading, its parameters, and what happened since
+pub data Since : Type 0 where
+  never : Since
+  since : (at : ℕ) (params : Params) (past : List Happening) → Since
+
+-- a happening, read with the port's parameters
+unfoldable pub goesOn : Since → (Params → Happening) → Since
+goesOn never h = never
+goesOn (since at params past) h = since at params (h params ∷ past)
+
+-- a call that is not refused: a block begins anew, a happening goes on, any other changes nothing
+unfoldable pub extended : Since → Call → Since
+extended s (SetParameters port at octets) = since at (paramsOf octets) []
+extended s (ReceiveResponse port at spdu safe) = goesOn s (λ params. happening.Response at (responseBy byBits params spdu))
+extended s (ReceiveRequest port at spdu safe) = goesOn s (λ params. happening.Request at (requestBy byBits params spdu))
+extended s (Clock port at safeIn safeOut) = goesOn s (λ params. happening.Clock at)
+extended s (Operator port at setSD ack safe) = goesOn s (λ params. happening.Operator at setSD ack)
+extended s (Compose port process other octets) = s
+extended s (BuildResponse port process out) = s
+extended s (Split port octets) = s
+extended s (Trend port) = s
+extended s (Bins port) = s
+extended s (ShowMaster port) = s
+extended s (ShowDevice port) = s
+
+-- of port q: the calls to it that were not refused, since its last accepted block
+unfoldable pub sinceBlock : ℕ → List Call → Since
+sinceBlock q [] = never
+sinceBlock q (c ∷ past) =
+    cond (eqb (portOf c) q && isTaken (answerOf (history past) c)) (extended (sinceBlock q past) c) (sinceBlock q past)
+
+-- ---- Both ends, after what happened since a block at this reading with this W
+
+unfoldable pub masterAfter : ℕ → ℕ → List Happening → Master
+masterAfter at w [] = table38.firstMaster at
+masterAfter at w (h ∷ past) = masters.stepOf (masterAfter at w past) w h .master
+
+unfoldable pub deviceAfter : ℕ → ℕ → List Happening → Device
+deviceAfter at w [] = firstDevice at
+deviceAfter at w (h ∷ past) = devices.stepOf (deviceAfter at w past) w h .device
+
+-- the FS-Master in the call of h, once its watchdog has been judged: a response is judged after that row, against the count it left (R17)
+unfoldable pub judgedIn : ℕ → ℕ → List Happening → Happening → Master
+judgedIn at w past h = masters.judged (masterAfter at w past) w (readingOf h)
+
+-- ---- Samples: "A sample is the first response that passes for each count sent, with elapsed t at most W, in any state."
+
+-- "a response passes if signature, port number and mirrored count agree with what was sent", where it is taken to a check (R14a)
+unfoldable pub passesBy : Master → Happening → Bool
+passesBy m (happening.Response at f) = table38.isTaken m f && sound m f
+passesBy m (happening.Request at q) = false
+passesBy m (happening.Clock at) = false
+passesBy m (happening.Operator at setSD ack) = false
+
+-- "A repeated response isn't a second sample" (R14a)
+unfoldable pub oldBy : Master → Happening → Bool
+oldBy m (happening.Response at f) = table38.isOld m f
+oldBy m (happening.Request at q) = false
+oldBy m (happening.Clock at) = false
+oldBy m (happening.Operator at setSD ack) = false
+
+-- what is kept while a count stays, and begins anew where it takes another value
+abbrev pub whileSame : {A : Type 0} → ℕ → ℕ → A → A → A
+whileSame before later kept anew = cond (eqb later before) kept anew
+
+-- "the reading of the call in which the FS-Master first put that count, since its last change or block, in an outgoing SPDU": for the count that
+-- stands after the calls. Two rows of one call are two changes (R17).
+unfoldable pub sentSince : ℕ → ℕ → List Happening → ℕ
+sentSince at w [] = at
+sentSince at w (h ∷ past) =
+    let before = masterAfter at w past .MCount in
+    let judged = judgedIn at w past h .MCount in
+    let later = masterAfter at w (h ∷ past) .MCount in
+    whileSame judged later (whileSame before judged (sentSince at w past) (readingOf h)) (readingOf h)
+
+-- a response has passed for the count that stands after the calls
+unfoldable pub answered : ℕ → ℕ → List Happening → Bool
+answered at w [] = false
+answered at w (h ∷ past) =
+    let before = masterAfter at w past .MCount in
+    let judged = judgedIn at w past h .MCount in
+    let later = masterAfter at w (h ∷ past) .MCount in
+    whileSame judged later (passesBy (judgedIn at w past h) h || whileSame before judged (answered at w past) false) false
+
+-- "t runs .. to the reading of the call that takes the response"
+unfoldable pub timeOf : ℕ → ℕ → List Happening → Happening → ℕ
+timeOf at w past h =
+    let before = masterAfter at w past .MCount in
+    let judged = judgedIn at w past h .MCount in
+    elapsedOf (readingOf h) (whileSame before judged (sentSince at w past) (readingOf h))
+
+unfoldable pub isSample : ℕ → ℕ → List Happening → Happening → Bool
+isSample at w past h =
+    let before = masterAfter at w past .MCount in
+    let judged = judgedIn at w past h .MCount in
+    let first = not (whileSame before judged (answered at w past) false) in
+    passesBy (judgedIn at w past h) h && first && not (oldBy (judgedIn at w past h) h) && leb (timeOf at w past h) w
+
+-- the samples, here the first first
+unfoldable pub samples : ℕ → ℕ → List Happening → List ℕ
+samples at w [] = []
+samples at w (h ∷ past) = samples at w past ++ cond (isSample at w past h) (timeOf at w past h ∷ []) []
+
+-- ---- The previous SPDU, "the last one taken to a check": whether there was one, the DCount_i it carried and the MCount that stood (R14)
+
+pub record Previous : Type 0 where
+  pub previous : Bool
+  pub carried : ℕ
+  pub stood : ℕ
+
+unfoldable pub previousBy : Master → Happening → Previous → Previous
+previousBy m (happening.Response at f) r = cond (table38.isTaken m f) (record { previous = true; carried = f .«DCount_i»; stood = m .MCount }) r
+previousBy m (happening.Request at q) r = r
+previousBy m (happening.Clock at) r = r
+previousBy m (happening.Operator at setSD ack) r = r
+
+-- before any, the FS-Master keeps 0 for both counts and does not read them
+unfoldable pub lastTaken : ℕ → ℕ → List Happening → Previous
+lastTaken at w [] = record { previous = false; carried = 0; stood = 7 }
+lastTaken at w (h ∷ past) = previousBy (judgedIn at w past h) h (lastTaken at w past)
+
+-- ---- What a port holds
+
+pub record StandsSince (p : Port) (at : ℕ) (params : Params) (past : List Happening) : Type 0 where
+  pub running : p .running ≡ true
+  pub parameters : p .params ≡ params
+  pub master : p .master ≡ masterAfter at (params .«FSP_WatchdogTime») past
+  pub device : p .device ≡ deviceAfter at (params .«FSP_WatchdogTime») past
+  -- bins, total, sum, lowest and highest are those of the samples, up to the freeze
+  pub counted : Holds (params .«FSP_WatchdogTime») (samples at (params .«FSP_WatchdogTime») past) (p .histogram)
+  pub within : Within (params .«FSP_WatchdogTime») (samples at (params .«FSP_WatchdogTime») past)
+  pub small : params .«FSP_WatchdogTime» ≤ 65535
+
+unfoldable pub Stands : Port → Since → Type 0
+Stands p never = p ≡ newPort
+Stands p (since at params past) = StandsSince p at params past
+
+-- ---- Release at the FS-Master
+
+-- where the acknowledgement of a fault stands: none is open; a fault (T7, T8, T12, T14); and a T13 after it
+pub data Fault : Type 0 where
+  None : Fault
+  Open : Fault
+  Asked : Fault
+
+unfoldable pub faultAfter : Row → Fault → Fault
+faultAfter Stay s = s
+faultAfter T4 s = s
+faultAfter T7 s = Open
+faultAfter T8 s = Open
+faultAfter T11 None = None
+faultAfter T11 Open = Open
+faultAfter T11 Asked = None
+faultAfter T12 s = Open
+faultAfter T13 None = None
+faultAfter T13 Open = Asked
+faultAfter T13 Asked = Asked
+faultAfter T14 s = Open
+
+-- after the rows of all calls since the block, the watchdog's before the arrival's
+unfoldable pub fault : ℕ → ℕ → List Happening → Fault
+fault at w [] = None
+fault at w (h ∷ past) =
+    let o = masters.stepOf (masterAfter at w past) w h in
+    faultAfter (o .arrival) (faultAfter (o .watchdog) (fault at w past))
+
+-- a response has passed since the block
+unfoldable pub hasPassed : ℕ → ℕ → List Happening → Bool
+hasPassed at w [] = false
+hasPassed at w (h ∷ past) = passesBy (judgedIn at w past h) h || hasPassed at w past

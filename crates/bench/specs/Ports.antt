@@ -1,0 +1,140 @@
+-- A port, a bench of eight, and one happening at a port. Assumes nothing.
+use Prim.Native.Nat.{ℕ, _-_}
+use mathlib.Core.Bool.{Bool, true, false, cond, not, _&&_, _||_}
+use mathlib.Core.List.{[]}
+use lib.Dec.{eqb, leb}
+use lib.ListN.{getD, set, replicate}
+use Rattle.answer.specs.declared.Answer.{Answer}
+use Rattle.answer.specs.declared.Answer.the-variants.{Taken}
+use Rattle.ranges.specs.Fields.{outside}
+use Rattle.block.specs.declared.Params.{Params}
+use Rattle.block.specs.Rules.{noParams}
+use Rattle.spdu.specs.declared.Mark.the-variants.{Nothing}
+use Rattle.scl.specs.Time.{elapsedOf}
+use Rattle.scl.specs.Happenings.{readingOf}
+use Rattle.scl.specs.declared.Happening.{Happening}
+use Rattle.fs_master.specs.declared.Master.{Master}
+use Rattle.fs_master.specs.declared.Row.{Row}
+use Rattle.fs_master.specs.Table38.{firstMaster, rowNumberOf}
+use Rattle.fs_master.specs.Calls as masters
+use Rattle.fs_device.specs.Table40.{firstDevice}
+use Rattle.fs_device.specs.Calls as devices
+use Rattle.histogram.specs.declared.Histogram.{Histogram}
+use Rattle.histogram.specs.Counted.{clearedOf, countedOf}
+use Rattle.bench.specs.declared.Port.{Port}
+use Rattle.bench.specs.declared.Bench.{Bench}
+use Rattle.bench.specs.declared.Reply.{Reply}
+use Rattle.bench.specs.declared.PortAfter.{PortAfter}
+use Rattle.bench.specs.declared.BenchAfter.{BenchAfter}
+
+-- no accepted parameters
+unfoldable pub newPort : Port
+newPort = record {
+  running = false;
+  params = noParams;
+  master = firstMaster 0;
+  device = firstDevice 0;
+  histogram = clearedOf;
+}
+
+-- "An accepted block .. puts both ends of the port in their first state, clears bins, total, trend and frozen mark, and takes W", from the old
+-- port and the parameters
+unfoldable pub acceptedPort : Port → Params → ℕ → Port
+acceptedPort p params at = record {
+  running = true;
+  params = params;
+  master = firstMaster at;
+  device = firstDevice at;
+  histogram = clearedOf;
+}
+
+unfoldable pub newBench : Bench
+newBench = record { ports = replicate 8 newPort }
+
+-- what a list of ports is read as past its end: no index gets there
+unfoldable pub noPort : Port
+noPort = record {
+  running = false;
+  params = noParams;
+  master = record {
+    state = 0;
+    MCount = 0;
+    setSD = false;
+    «SDset_S» = false;
+    ChFAckReq = false;
+    «ChFAckReq_S» = false;
+    «ChFAck_C_e» = false;
+    «setSD_C» = false;
+    «ChFAck_C» = false;
+    previous = false;
+    carried = 0;
+    awaited = 0;
+    MTimer = 0;
+    runs = false;
+    sample = 0;
+    released = false;
+  };
+  device = record {
+    state = 0;
+    SDcycles = 0;
+    CommErrCount = 0;
+    TimeoutCount = 0;
+    DCommErr = false;
+    DTimeout = false;
+    SDset = false;
+    «setSD_DC» = false;
+    «ChFAckReq_DC» = false;
+    «DCount_i» = 0;
+    MCount = 0;
+    DTimer = 0;
+    runs = false;
+    released = false;
+    responded = false;
+  };
+  histogram = record { bins = []; total = 0; sum = 0; lowest = 0; highest = 0 };
+}
+
+-- the port of a number; of a number that no port has, a port that never ran
+unfoldable pub portAt : Bench → ℕ → Port
+portAt b port = cond (outside 1 8 port) newPort (getD (b .ports) (port - 1) noPort)
+
+-- the bench with another port of that number, the others as they stood
+unfoldable pub withPort : Bench → ℕ → Port → Bench
+withPort b port p = cond (outside 1 8 port) b (record { ports = set (b .ports) (port - 1) p })
+
+-- The reading of the call in which the count that a response answers was first put in an outgoing SPDU: the start that is kept, or this call's
+-- reading where the watchdog's row, T8 or T14, gave MCount another value than 0 (R17).
+unfoldable pub sentAt : Master → Row → ℕ → ℕ
+sentAt m watchdog at = cond (eqb (rowNumberOf watchdog) 0 || eqb (m .MCount) 0) (m .sample) at
+
+-- "A sample is the first response that passes for each count sent, with elapsed t at most W", and not an old one (R14a)
+unfoldable pub tallied : Histogram → ℕ → Bool → ℕ → Histogram
+tallied h w passes t = cond (passes && leb t w) (countedOf h w t) h
+
+-- Every happening judges the watchdog of both ends, then what arrived goes to the end it is for (R11).
+unfoldable pub stepOf : Port → Happening → PortAfter
+stepOf p h =
+    let w = p .params .«FSP_WatchdogTime» in
+    let m = masters.stepOf (p .master) w h in
+    let d = devices.stepOf (p .device) w h in
+    let t = elapsedOf (readingOf h) (sentAt (p .master) (m .watchdog) (readingOf h)) in
+    record {
+      port = record {
+        running = p .running;
+        params = p .params;
+        master = m .master;
+        device = d .device;
+        histogram = tallied (p .histogram) w (m .passed && not (m .old)) t;
+      };
+      reply = record {
+        answer = Taken;
+        master = m .mark;
+        device = d .mark;
+        «master_releases» = m .master .released;
+        «device_releases» = d .device .released;
+      };
+    }
+
+-- nothing is handed on: in a refusal, and in a parameter block, which lends no safe values
+unfoldable pub silent : Answer → Reply
+silent a = record { answer = a; master = Nothing; device = Nothing; «master_releases» = false; «device_releases» = false }

@@ -1,0 +1,99 @@
+// The calls on outgoing and incoming octets.
+ghost use mathlib.Core.Path.{_≡_};
+ghost use Rattle.bench.specs.Ports.{portAt};
+ghost use Rattle.bench.specs.Images as images;
+use crate::Bench;
+use crate::at_port::call_answer;
+use crate::calls::port_at;
+use answer::Answer;
+use spdu::Mark;
+
+// The FS-Master's outgoing image: process octets (zeros where setSD is 1) in an SPDU, other data behind it.
+pub fn compose(b: Bench, port: u8, process: &[u8], other: &[u8], octets: &mut [u8]) -> Answer
+    ensures { λ r. ⌜ r ≡ images.composeAnswer port (portAt b port) (now (process .entry)) (now (other .entry)) (now (octets .entry)) ⌝ }
+    ensures { λ _. ⌜ now (octets .exit) ≡ images.composed port (portAt b port) (now (process .entry)) (now (other .entry)) (now (octets .entry)) ⌝ }
+{
+    let p = port_at(b, port);
+    let a = call_answer(port, p);
+    if answer::is_taken(a) {
+        let m = p.master;
+        spdu::compose(
+            p.params,
+            m.MCount,
+            m.setSD,
+            m.ChFAckReq,
+            process,
+            other,
+            octets,
+        )
+    } else {
+        a
+    }
+}
+
+// The FS-Device's outgoing SPDU; zeros until its first response.
+pub fn build_response(b: Bench, port: u8, process: &[u8], out: &mut [u8]) -> Answer
+    ensures { λ r. ⌜ r ≡ images.buildAnswer port (portAt b port) (now (process .entry)) (now (out .entry)) ⌝ }
+    ensures { λ _. ⌜ now (out .exit) ≡ images.responseOut port (portAt b port) (now (process .entry)) (now (out .entry)) ⌝ }
+{
+    let p = port_at(b, port);
+    let a = call_answer(port, p);
+    if answer::is_taken(a) {
+        let d = p.device;
+        spdu::build_response(
+            p.params,
+            d.responded,
+            d.DCount_i,
+            d.SDset,
+            d.DCommErr,
+            d.DTimeout,
+            process,
+            out,
+        )
+    } else {
+        a
+    }
+}
+
+// TAKEN where the image has the FS-Master's SPDU and the other data.
+pub fn split(b: Bench, port: u8, octets: &[u8]) -> Answer
+    ensures { λ r. ⌜ r ≡ images.splitAnswer port (portAt b port) (now (octets .entry)) ⌝ }
+{
+    let p = port_at(b, port);
+    let a = call_answer(port, p);
+    if answer::is_taken(a) {
+        spdu::split(p.params, octets)
+    } else {
+        a
+    }
+}
+
+pub fn spdu_part(b: Bench, port: u8, octets: &[u8]) -> &[u8]
+    ensures { λ r. ⌜ now r ≡ images.spduPart port (portAt b port) (now (octets .entry)) ⌝ }
+{
+    let p = port_at(b, port);
+    if answer::is_taken(call_answer(port, p)) {
+        spdu::spdu_part(p.params, octets)
+    } else {
+        &octets[..0]
+    }
+}
+
+pub fn other_part(b: Bench, port: u8, octets: &[u8]) -> &[u8]
+    ensures { λ r. ⌜ now r ≡ images.otherPart port (portAt b port) (now (octets .entry)) ⌝ }
+{
+    let p = port_at(b, port);
+    if answer::is_taken(call_answer(port, p)) {
+        spdu::other_part(p.params, octets)
+    } else {
+        &octets[..0]
+    }
+}
+
+// What a call with this mark handed on, of the SPDU and the safe values lent to it.
+pub fn handed_on<'a>(b: Bench, port: u8, mark: Mark, spdu: &'a [u8], safe: &'a [u8]) -> &'a [u8]
+    ensures { λ r. ⌜ now r ≡ images.handedOn (portAt b port) mark (now (spdu .entry)) (now (safe .entry)) ⌝ }
+{
+    let p = port_at(b, port);
+    spdu::handed_on(mark, p.params.FSP_ProtMode, spdu, safe)
+}

@@ -1,0 +1,53 @@
+-- The bench's results in numbers, for other languages. Assumes nothing.
+use Prim.Native.Nat.{ℕ}
+use mathlib.Core.List.{List}
+use lib.ListN.{length}
+use Rattle.answer.specs.Answers.{numberOf, offsetOf}
+use Rattle.scl.specs.Happenings.{markNumberOf}
+use Rattle.histogram.specs.declared.Trend.{Trend}
+use Rattle.bench.specs.declared.Port.{Port}
+use Rattle.bench.specs.declared.Reply.{Reply}
+use Rattle.bench.specs.declared.BenchAfter.{BenchAfter}
+use Rattle.bench.specs.declared.Bins.{Bins}
+use Rattle.bench.specs.declared.MasterShown.{MasterShown}
+use Rattle.bench.specs.declared.DeviceShown.{DeviceShown}
+use Rattle.bench.specs.Images.{splitAnswer, spduPart, otherPart}
+use Rattle.export.specs.declared.histograms.NumberedTrend.{NumberedTrend}
+use Rattle.export.specs.declared.benches.ReplyTold.{ReplyTold}
+use Rattle.export.specs.declared.benches.BenchTold.{BenchTold}
+use Rattle.export.specs.declared.benches.SplitTold.{SplitTold}
+use Rattle.export.specs.declared.benches.BinsTold.{BinsTold}
+use Rattle.export.specs.declared.benches.MasterTold.{MasterTold}
+use Rattle.export.specs.declared.benches.DeviceTold.{DeviceTold}
+
+abbrev pub replyTold : Reply → ReplyTold
+replyTold r = record {
+  number = numberOf (r .answer);
+  offset = offsetOf (r .answer);
+  master = markNumberOf (r .master);
+  device = markNumberOf (r .device);
+  «master_releases» = r .«master_releases»;
+  «device_releases» = r .«device_releases»;
+}
+
+abbrev pub benchTold : BenchAfter → BenchTold
+benchTold a = record { bench = a .bench; reply = replyTold (a .reply) }
+
+abbrev pub splitTold : ℕ → Port → List ℕ → SplitTold
+splitTold port p octets = record {
+  number = numberOf (splitAnswer port p octets);
+  spdu = length (spduPart port p octets);
+  other = length (otherPart port p octets);
+}
+
+abbrev pub trendTold : Trend → NumberedTrend
+trendTold t = record { number = numberOf (t .answer); point = t .point }
+
+abbrev pub binsTold : Bins → BinsTold
+binsTold b = record { number = numberOf (b .answer); bins = b .bins; total = b .total; frozen = b .frozen }
+
+abbrev pub masterShown : MasterShown → MasterTold
+masterShown m = record { number = numberOf (m .answer); master = m .master }
+
+abbrev pub deviceShown : DeviceShown → DeviceTold
+deviceShown d = record { number = numberOf (d .answer); device = d .device }

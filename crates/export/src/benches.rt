@@ -1,0 +1,245 @@
+// The bench (crate bench): eight ports and every call on them. Answers and marks are numbers here. An incoming image is told by the lengths of
+// its two parts, the SPDU first; an exported function returns no reference.
+ghost use mathlib.Core.Path.{_≡_};
+ghost use Rattle.answer.specs.Answers.{numberOf};
+ghost use Rattle.bench.specs.Ports.{newBench, portAt};
+ghost use Rattle.bench.specs.Calls as calls;
+ghost use Rattle.bench.specs.Images as images;
+ghost use Rattle.bench.specs.Shown as shown;
+ghost use Rattle.export.specs.Benches as told;
+use crate::histograms::NumberedTrend;
+use bench::Bench;
+use bench::BenchAfter;
+use fs_device::Device;
+use fs_master::Master;
+
+#[repr(C)]
+pub struct ReplyTold {
+    pub number: u8,
+    pub offset: u8,
+    pub master: u8,
+    pub device: u8,
+    pub master_releases: bool,
+    pub device_releases: bool,
+}
+
+#[repr(C)]
+pub struct BenchTold {
+    pub bench: Bench,
+    pub reply: ReplyTold,
+}
+
+#[repr(C)]
+pub struct SplitTold {
+    pub number: u8,
+    pub spdu: usize,
+    pub other: usize,
+}
+
+#[repr(C)]
+pub struct BinsTold {
+    pub number: u8,
+    pub bins: [u32; 32],
+    pub total: u32,
+    pub frozen: bool,
+}
+
+#[repr(C)]
+pub struct MasterTold {
+    pub number: u8,
+    pub master: Master,
+}
+
+#[repr(C)]
+pub struct DeviceTold {
+    pub number: u8,
+    pub device: Device,
+}
+
+fn bench_told(after: BenchAfter) -> BenchTold
+    ensures { λ r. ⌜ r ≡ told.benchTold after ⌝ }
+{
+    let bench = after.bench;
+    let reply = after.reply;
+    let answer = reply.answer;
+    let master = reply.master;
+    let device = reply.device;
+    BenchTold {
+        bench,
+        reply: ReplyTold {
+            number: answer::number(answer),
+            offset: answer::offset(answer),
+            master: scl::mark_number(master),
+            device: scl::mark_number(device),
+            master_releases: reply.master_releases,
+            device_releases: reply.device_releases,
+        },
+    }
+}
+
+#[no_mangle]
+pub extern "C" fn whakelouna_new_bench() -> Bench
+    ensures { λ r. ⌜ r ≡ newBench ⌝ }
+{
+    bench::new_bench()
+}
+
+#[no_mangle]
+pub extern "C" fn whakelouna_set_parameters(
+    bench: Bench,
+    port: u8,
+    at: u32,
+    octets: &[u8],
+) -> BenchTold
+    ensures { λ r. ⌜ r ≡ told.benchTold (calls.setParameters bench port at (now (octets .entry))) ⌝ }
+{
+    bench_told(bench::set_parameters(bench, port, at, octets))
+}
+
+#[no_mangle]
+pub extern "C" fn whakelouna_receive_response(
+    bench: Bench,
+    port: u8,
+    at: u32,
+    spdu: &[u8],
+    safe: &[u8],
+) -> BenchTold
+    ensures { λ r. ⌜ r ≡ told.benchTold (calls.receiveResponse bench port at (now (spdu .entry)) (now (safe .entry))) ⌝ }
+{
+    bench_told(bench::receive_response(bench, port, at, spdu, safe))
+}
+
+#[no_mangle]
+pub extern "C" fn whakelouna_receive_request(
+    bench: Bench,
+    port: u8,
+    at: u32,
+    spdu: &[u8],
+    safe: &[u8],
+) -> BenchTold
+    ensures { λ r. ⌜ r ≡ told.benchTold (calls.receiveRequest bench port at (now (spdu .entry)) (now (safe .entry))) ⌝ }
+{
+    bench_told(bench::receive_request(bench, port, at, spdu, safe))
+}
+
+#[no_mangle]
+pub extern "C" fn whakelouna_clock(
+    bench: Bench,
+    port: u8,
+    at: u32,
+    safe_in: &[u8],
+    safe_out: &[u8],
+) -> BenchTold
+    ensures { λ r. ⌜ r ≡ told.benchTold (calls.clock bench port at (now («safe_in» .entry)) (now («safe_out» .entry))) ⌝ }
+{
+    bench_told(bench::clock(bench, port, at, safe_in, safe_out))
+}
+
+#[no_mangle]
+pub extern "C" fn whakelouna_operator(
+    bench: Bench,
+    port: u8,
+    at: u32,
+    setSD_C: bool,
+    ChFAck_C: bool,
+    safe: &[u8],
+) -> BenchTold
+    ensures { λ r. ⌜ r ≡ told.benchTold (calls.operator bench port at «setSD_C» «ChFAck_C» (now (safe .entry))) ⌝ }
+{
+    bench_told(bench::operator(bench, port, at, setSD_C, ChFAck_C, safe))
+}
+
+// Writes the FS-Master's outgoing image and returns the answer's number.
+#[no_mangle]
+pub extern "C" fn whakelouna_compose(
+    bench: Bench,
+    port: u8,
+    process: &[u8],
+    other: &[u8],
+    octets: &mut [u8],
+) -> u8
+    ensures { λ r. ⌜ r ≡ numberOf (images.composeAnswer port (portAt bench port) (now (process .entry)) (now (other .entry)) (now (octets .entry))) ⌝ }
+    ensures { λ _. ⌜ now (octets .exit) ≡ images.composed port (portAt bench port) (now (process .entry)) (now (other .entry)) (now (octets .entry)) ⌝ }
+{
+    answer::number(bench::compose(bench, port, process, other, octets))
+}
+
+// Writes the FS-Device's outgoing SPDU and returns the answer's number.
+#[no_mangle]
+pub extern "C" fn whakelouna_build_response(
+    bench: Bench,
+    port: u8,
+    process: &[u8],
+    out: &mut [u8],
+) -> u8
+    ensures { λ r. ⌜ r ≡ numberOf (images.buildAnswer port (portAt bench port) (now (process .entry)) (now (out .entry))) ⌝ }
+    ensures { λ _. ⌜ now (out .exit) ≡ images.responseOut port (portAt bench port) (now (process .entry)) (now (out .entry)) ⌝ }
+{
+    answer::number(bench::build_response(bench, port, process, out))
+}
+
+#[no_mangle]
+pub extern "C" fn whakelouna_split(bench: Bench, port: u8, octets: &[u8]) -> SplitTold
+    ensures { λ r. ⌜ r ≡ told.splitTold port (portAt bench port) (now (octets .entry)) ⌝ }
+{
+    let answer = bench::split(bench, port, octets);
+    SplitTold {
+        number: answer::number(answer),
+        spdu: bench::spdu_part(bench, port, octets).len(),
+        other: bench::other_part(bench, port, octets).len(),
+    }
+}
+
+#[no_mangle]
+pub extern "C" fn whakelouna_trend(bench: Bench, port: u8) -> NumberedTrend
+    ensures { λ r. ⌜ r ≡ told.trendTold (shown.trendOf port (portAt bench port)) ⌝ }
+{
+    let trend = bench::trend_of(bench, port);
+    let answer = trend.answer;
+    let point = trend.point;
+    NumberedTrend {
+        number: answer::number(answer),
+        point,
+    }
+}
+
+#[no_mangle]
+pub extern "C" fn whakelouna_bins(bench: Bench, port: u8) -> BinsTold
+    ensures { λ r. ⌜ r ≡ told.binsTold (shown.binsOf port (portAt bench port)) ⌝ }
+{
+    let shown = bench::bins_of(bench, port);
+    let answer = shown.answer;
+    let bins = shown.bins;
+    BinsTold {
+        number: answer::number(answer),
+        bins,
+        total: shown.total,
+        frozen: shown.frozen,
+    }
+}
+
+#[no_mangle]
+pub extern "C" fn whakelouna_master(bench: Bench, port: u8) -> MasterTold
+    ensures { λ r. ⌜ r ≡ told.masterShown (shown.masterOf port (portAt bench port)) ⌝ }
+{
+    let shown = bench::master_of(bench, port);
+    let answer = shown.answer;
+    let master = shown.master;
+    MasterTold {
+        number: answer::number(answer),
+        master,
+    }
+}
+
+#[no_mangle]
+pub extern "C" fn whakelouna_device(bench: Bench, port: u8) -> DeviceTold
+    ensures { λ r. ⌜ r ≡ told.deviceShown (shown.deviceOf port (portAt bench port)) ⌝ }
+{
+    let shown = bench::device_of(bench, port);
+    let answer = shown.answer;
+    let device = shown.device;
+    DeviceTold {
+        number: answer::number(answer),
+        device,
+    }
+}

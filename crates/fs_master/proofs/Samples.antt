@@ -1,0 +1,140 @@
+-- What a sample rests on, call by call: the start that is kept, the response that passes, and the previous SPDU. Assumes nothing.
+use Prim.Native.Nat.{ℕ}
+use mathlib.Core.Path.{_≡_, refl, sym, _∙_}
+use mathlib.Core.Bool.{Bool, true, false, cond, not, _&&_, _||_}
+use lib.Dec.{eqb}
+use borrow.Author.Tests.{eq-eqb, eqb-true}
+use Rattle.scl.specs.Counts.{inverted}
+use Rattle.scl.specs.Happenings.{readingOf, checkOf, isFailure}
+use Rattle.scl.specs.declared.Happening.{Happening}
+use Rattle.scl.specs.declared.Happening.the-variants as happening
+use Rattle.scl.proofs.Cases.{cond-case}
+use Rattle.spdu.specs.declared.Response.{Response}
+use Rattle.fs_master.specs.declared.Master.{Master}
+use Rattle.fs_master.specs.declared.Outcome.{Outcome}
+use Rattle.fs_master.specs.declared.Row.{Row}
+use Rattle.fs_master.specs.declared.Row.the-variants.{Stay, T4, T7, T8, T11, T12, T13, T14}
+use Rattle.fs_master.specs.Table38.{watchdogRow, isOld, isTaken, hasFaults, checked, isExpected, arrivalRow, taken, sampleFrom, t4, t7, t8, t11, t12, t13, t14, acted, signalled, rowNumberOf}
+use Rattle.fs_master.specs.Calls.{judged, quiet, arrived, received, watched, operated, stepOf}
+use Rattle.fs_master.specs.History.{sound}
+use Rattle.fs_master.proofs.Rows.{timeout-case, row-case}
+
+-- ---- the start
+
+-- it is kept while the count is the same, and is the call's reading where the count takes another value
+abbrev pub startAfter : Master → ℕ → ℕ → ℕ
+startAfter m count at = cond (eqb count (m .MCount)) (m .sample) at
+
+stays : (m : Master) (at : ℕ) → m .sample ≡ startAfter m (m .MCount) at
+stays m at = simp (eq-eqb (m .MCount) (m .MCount) refl)
+
+acted-start : (m : Master) (r : Row) (at : ℕ) (SDset : Bool) → acted m r at SDset .sample ≡ startAfter m (acted m r at SDset .MCount) at
+unfolding acted sampleFrom t4 t7 t8 t11 t12 t13 t14
+acted-start m Stay at SDset = stays m at
+acted-start m T4 at SDset = refl
+acted-start m T7 at SDset = refl
+acted-start m T8 at SDset = refl
+acted-start m T11 at SDset = refl
+acted-start m T12 at SDset = refl
+acted-start m T13 at SDset = refl
+acted-start m T14 at SDset = refl
+
+pub judged-start : (m : Master) (w at : ℕ) → judged m w at .sample ≡ startAfter m (judged m w at .MCount) at
+unfolding judged
+judged-start m w at = acted-start m (watchdogRow m w at) at false
+
+arrived-start : (m : Master) (f : Response) (r : Row) (at : ℕ) → acted (taken m f) r at (f .SDset) .sample ≡ startAfter m (acted (taken m f) r at (f .SDset) .MCount) at
+unfolding taken
+arrived-start m f r at = acted-start (taken m f) r at (f .SDset)
+
+received-start : (m : Master) (r : Row) (at : ℕ) (f : Response) → received m r at f .master .sample ≡ startAfter m (received m r at f .master .MCount) at
+unfolding received arrived quiet
+received-start m r at f =
+    cond-case (λ (o : Outcome). o .master .sample ≡ startAfter m (o .master .MCount) at) (isTaken m f) {x = arrived m r at f (checked m f)} {y = quiet m r (isOld m f)}
+    (λ _. arrived-start m f (arrivalRow m (hasFaults (isFailure (checked m f)) f)) at)
+    (λ _. stays m at)
+
+pub step-start : (m : Master) (w : ℕ) (h : Happening) → stepOf m w h .master .sample ≡ startAfter (judged m w (readingOf h)) (stepOf m w h .master .MCount) (readingOf h)
+unfolding stepOf watched operated quiet signalled
+step-start m w (happening.Response at f) = received-start (judged m w at) (watchdogRow m w at) at f
+step-start m w (happening.Request at q) = stays (judged m w at) at
+step-start m w (happening.Clock at) = stays (judged m w at) at
+step-start m w (happening.Operator at setSD ack) = stays (judged m w at) at
+
+-- ---- the watchdog's row
+
+received-watchdog : (m : Master) (r : Row) (at : ℕ) (f : Response) → received m r at f .watchdog ≡ r
+unfolding received arrived quiet
+received-watchdog m r at f = cond-case (λ (o : Outcome). o .watchdog ≡ r) (isTaken m f) (λ _. refl) (λ _. refl)
+
+pub step-watchdog : (m : Master) (w : ℕ) (h : Happening) → stepOf m w h .watchdog ≡ watchdogRow m w (readingOf h)
+unfolding stepOf watched operated quiet
+step-watchdog m w (happening.Response at f) = received-watchdog (judged m w at) (watchdogRow m w at) at f
+step-watchdog m w (happening.Request at q) = refl
+step-watchdog m w (happening.Clock at) = refl
+step-watchdog m w (happening.Operator at setSD ack) = refl
+
+-- ---- what passes
+
+agrees : (a b c : Bool) → not (isFailure (checkOf a b c)) ≡ (a && b && c)
+agrees true true true = refl
+agrees true true false = refl
+agrees true false c = refl
+agrees false b c = refl
+
+received-passed : (m : Master) (r : Row) (at : ℕ) (f : Response) → received m r at f .passed ≡ (isTaken m f && sound m f)
+unfolding received arrived quiet checked
+received-passed m r at f = go (isTaken m f)
+  where
+    go : (b : Bool) → cond b (arrived m r at f (checked m f)) (quiet m r (isOld m f)) .passed ≡ (b && sound m f)
+    go true = agrees (f .«signature_holds») (f .«port_holds») (isExpected m f)
+    go false = refl
+
+pub step-passed : (m : Master) (w at : ℕ) (f : Response) → stepOf m w (happening.Response at f) .passed ≡ (isTaken (judged m w at) f && sound (judged m w at) f)
+unfolding stepOf
+step-passed m w at f = received-passed (judged m w at) (watchdogRow m w at) at f
+
+received-old : (m : Master) (r : Row) (at : ℕ) (f : Response) → received m r at f .old ≡ isOld m f
+unfolding received arrived quiet
+received-old m r at f = cond-case (λ (o : Outcome). o .old ≡ isOld m f) (isTaken m f) (λ _. refl) (λ _. refl)
+
+pub step-old : (m : Master) (w at : ℕ) (f : Response) → stepOf m w (happening.Response at f) .old ≡ isOld (judged m w at) f
+unfolding stepOf
+step-old m w at f = received-old (judged m w at) (watchdogRow m w at) at f
+
+-- ---- the previous SPDU
+
+-- kept of it: whether there was one, the DCount_i that it carried and the one awaited
+pub record Kept (previous : Bool) (carried awaited : ℕ) (m : Master) : Type 0 where
+  pub previous-is : m .previous ≡ previous
+  pub carried-is : m .carried ≡ carried
+  pub awaited-is : m .awaited ≡ awaited
+
+acted-kept : (m : Master) (r : Row) (at : ℕ) (SDset : Bool) {previous : Bool} {carried awaited : ℕ} → Kept previous carried awaited m → Kept previous carried awaited (acted m r at SDset)
+unfolding acted t4 t7 t8 t11 t12 t13 t14
+acted-kept m Stay at SDset k = k
+acted-kept m T4 at SDset k = record { previous-is = k .previous-is; carried-is = k .carried-is; awaited-is = k .awaited-is }
+acted-kept m T7 at SDset k = record { previous-is = k .previous-is; carried-is = k .carried-is; awaited-is = k .awaited-is }
+acted-kept m T8 at SDset k = record { previous-is = k .previous-is; carried-is = k .carried-is; awaited-is = k .awaited-is }
+acted-kept m T11 at SDset k = record { previous-is = k .previous-is; carried-is = k .carried-is; awaited-is = k .awaited-is }
+acted-kept m T12 at SDset k = record { previous-is = k .previous-is; carried-is = k .carried-is; awaited-is = k .awaited-is }
+acted-kept m T13 at SDset k = record { previous-is = k .previous-is; carried-is = k .carried-is; awaited-is = k .awaited-is }
+acted-kept m T14 at SDset k = record { previous-is = k .previous-is; carried-is = k .carried-is; awaited-is = k .awaited-is }
+
+-- the watchdog leaves it
+pub judged-kept : (m : Master) (w at : ℕ) {previous : Bool} {carried awaited : ℕ} → Kept previous carried awaited m → Kept previous carried awaited (judged m w at)
+unfolding judged
+judged-kept m w at k = acted-kept m (watchdogRow m w at) at false k
+
+received-kept : (m : Master) (r : Row) (at : ℕ) (f : Response) {previous : Bool} {carried awaited : ℕ} → Kept previous carried awaited m → Kept (cond (isTaken m f) true previous) (cond (isTaken m f) (f .«DCount_i») carried) (cond (isTaken m f) (inverted (m .MCount)) awaited) (received m r at f .master)
+unfolding received arrived quiet taken
+received-kept m r at f {previous} {carried} {awaited} k = go (isTaken m f)
+  where
+    go : (b : Bool) → Kept (cond b true previous) (cond b (f .«DCount_i») carried) (cond b (inverted (m .MCount)) awaited) (cond b (arrived m r at f (checked m f)) (quiet m r (isOld m f)) .master)
+    go true = acted-kept (taken m f) (arrivalRow m (hasFaults (isFailure (checked m f)) f)) at (f .SDset) (record { previous-is = refl; carried-is = refl; awaited-is = refl })
+    go false = k
+
+-- a response that is taken is the previous SPDU from then on; nothing else is
+pub response-kept : (m : Master) (w at : ℕ) (f : Response) {previous : Bool} {carried awaited : ℕ} → Kept previous carried awaited m → Kept (cond (isTaken (judged m w at) f) true previous) (cond (isTaken (judged m w at) f) (f .«DCount_i») carried) (cond (isTaken (judged m w at) f) (inverted (judged m w at .MCount)) awaited) (stepOf m w (happening.Response at f) .master)
+unfolding stepOf
+response-kept m w at f k = received-kept (judged m w at) (watchdogRow m w at) at f (judged-kept m w at k)
