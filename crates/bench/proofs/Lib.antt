@@ -5,3 +5,6 @@ pub mod AtPort
 pub mod Samples
 pub mod History
 pub mod Release
+pub mod Never
+pub mod HandedOn
+pub mod Showing

@@ -5,14 +5,18 @@ use mathlib.Core.Path.{_≡_}
 use mathlib.Core.Bool.{Bool, true, false, cond, not, _&&_, _||_}
 use mathlib.Core.List.{List, [], _∷_, _++_}
 use lib.Dec.{eqb, leb}
-use lib.ListN.{length}
+use lib.ListN.{length, getD, replicate}
 use Rattle.answer.specs.declared.Answer.{Answer}
 use Rattle.answer.specs.declared.Answer.the-variants.{Buffer}
 use Rattle.answer.specs.Answers.{isTaken}
 use Rattle.answer.specs.Rules.{Rule, rule}
 use Rattle.block.specs.declared.Params.{Params}
+use Rattle.block.specs.Accepted.{Accepted}
 use Rattle.block.specs.Table22.{paramsOf}
 use Rattle.block.specs.Rules.{rulesOn}
+use Rattle.spdu.specs.declared.Request.{Request}
+use Rattle.spdu.specs.declared.Response.{Response}
+use Rattle.spdu.specs.Places.{processOctets}
 use Rattle.spdu.specs.Signature.{byBits}
 use Rattle.spdu.specs.Fields.{responseBy, requestBy}
 use Rattle.spdu.specs.Built.{buffersHold}
@@ -26,11 +30,12 @@ use Rattle.fs_master.specs.declared.Row.{Row}
 use Rattle.fs_master.specs.declared.Row.the-variants.{Stay, T4, T7, T8, T11, T12, T13, T14}
 use Rattle.fs_master.specs.Table38 as table38
 use Rattle.fs_master.specs.Calls as masters
-use Rattle.fs_master.specs.History.{sound}
+use Rattle.fs_master.specs.History as masterSpecs
 use Rattle.fs_device.specs.declared.Device.{Device}
-use Rattle.fs_device.specs.Table40.{firstDevice}
+use Rattle.fs_device.specs.Table40 as table40
 use Rattle.fs_device.specs.Calls as devices
-use Rattle.histogram.specs.Samples.{Within, Holds}
+use Rattle.fs_device.specs.History as deviceSpecs
+use Rattle.histogram.specs.Samples.{binCount, Within, Holds, Fits}
 use Rattle.bench.specs.declared.Port.{Port}
 use Rattle.bench.specs.declared.Bench.{Bench}
 use Rattle.bench.specs.Ports.{newPort, newBench, portAt}
@@ -164,7 +169,7 @@ masterAfter at w [] = table38.firstMaster at
 masterAfter at w (h ∷ past) = masters.stepOf (masterAfter at w past) w h .master
 
 unfoldable pub deviceAfter : ℕ → ℕ → List Happening → Device
-deviceAfter at w [] = firstDevice at
+deviceAfter at w [] = table40.firstDevice at
 deviceAfter at w (h ∷ past) = devices.stepOf (deviceAfter at w past) w h .device
 
 -- the FS-Master in the call of h, once its watchdog has been judged: a response is judged after that row, against the count it left (R17)
@@ -175,7 +180,7 @@ judgedIn at w past h = masters.judged (masterAfter at w past) w (readingOf h)
 
 -- "a response passes if signature, port number and mirrored count agree with what was sent", where it is taken to a check (R14a)
 unfoldable pub passesBy : Master → Happening → Bool
-passesBy m (happening.Response at f) = table38.isTaken m f && sound m f
+passesBy m (happening.Response at f) = table38.isTaken m f && masterSpecs.sound m f
 passesBy m (happening.Request at q) = false
 passesBy m (happening.Clock at) = false
 passesBy m (happening.Operator at setSD ack) = false
@@ -296,3 +301,63 @@ fault at w (h ∷ past) =
 unfoldable pub hasPassed : ℕ → ℕ → List Happening → Bool
 hasPassed at w [] = false
 hasPassed at w (h ∷ past) = passesBy (judgedIn at w past h) h || hasPassed at w past
+
+-- ---- Values that never arise (a ProtMode of 7, a count of 9, a bin that wraps): what holds of a port that runs, of number q
+
+pub record Arising (q : ℕ) (p : Port) : Type 0 where
+  pub parameters : Accepted q (p .params)
+  -- R17b
+  pub master : masterSpecs.Held (p .master)
+  pub count : p .master .MCount ≤ 7
+  pub carried : p .master .carried ≤ 7
+  pub awaited : p .master .awaited ≤ 7
+  pub device : deviceSpecs.waits (p .device) ≡ true
+  pub taken-count : p .device .MCount ≤ 7
+  pub mirrored : p .device .«DCount_i» ≤ 7
+  pub cycles : p .device .SDcycles ≤ 3
+  pub errors : p .device .CommErrCount ≤ 1
+  pub timeouts : p .device .TimeoutCount ≤ 1
+  -- nothing in the histogram wraps
+  pub bins : length (p .histogram .bins) ≡ binCount
+  pub fits : Fits (p .histogram)
+
+-- what is lent as a block
+unfoldable pub blockIn : Call → List ℕ
+blockIn (SetParameters port at octets) = octets
+blockIn (ReceiveResponse port at spdu safe) = []
+blockIn (ReceiveRequest port at spdu safe) = []
+blockIn (Clock port at safeIn safeOut) = []
+blockIn (Operator port at setSD ack safe) = []
+blockIn (Compose port process other octets) = []
+blockIn (BuildResponse port process out) = []
+blockIn (Split port octets) = []
+blockIn (Trend port) = []
+blockIn (Bins port) = []
+blockIn (ShowMaster port) = []
+blockIn (ShowDevice port) = []
+
+-- its elements are octets
+pub data OctetsIn : List Call → Type 0 where
+  no-call : OctetsIn []
+  one-more : {c : Call} {past : List Call} → ((i : ℕ) → getD (blockIn c) i 0 < 256) → OctetsIn past → OctetsIn (c ∷ past)
+
+-- ---- What a call hands on
+
+-- "a part of the received SPDU where the machine releases them, and otherwise a part of the lent safe values": process octets of this call's SPDU
+-- where the end releases and the SPDU led to a row; safe values, zeros, of n octets where it does not release; else empty, and release goes on
+abbrev pub handsOn : Bool → Bool → List ℕ → ℕ → List ℕ
+handsOn releases row process n = cond releases (cond row process []) (replicate n 0)
+
+-- the process octets of a port's SPDUs, as FS-Master and as FS-Device
+abbrev pub octetsIn : Port → ℕ
+octetsIn p = processOctets (p .params .«FSP_ProtMode») (p .params .SPDUInLength)
+
+abbrev pub octetsOut : Port → ℕ
+octetsOut p = processOctets (p .params .«FSP_ProtMode») (p .params .SPDUOutLength)
+
+-- this call's SPDU led to a row, at the FS-Master and at the FS-Device
+abbrev pub responseTaken : Port → ℕ → Response → Bool
+responseTaken p at f = table38.isTaken (masters.judged (p .master) (p .params .«FSP_WatchdogTime») at) f
+
+abbrev pub requestTaken : Port → ℕ → Request → Bool
+requestTaken p at q = table40.isTaken (devices.judged (p .device) (p .params .«FSP_WatchdogTime») at) q
