@@ -161,4 +161,87 @@ struct whakelouna_device whakelouna_device_first(uint32_t at);
 struct whakelouna_device_outcome whakelouna_device_request(struct whakelouna_device device, uint16_t w, uint32_t at, struct whakelouna_request request);
 struct whakelouna_device_outcome whakelouna_device_clock(struct whakelouna_device device, uint16_t w, uint32_t at);
 
+// The bench: ports 1 to 8, each with both its ends (document 01). `running`: parameters have been accepted.
+struct whakelouna_port {
+    bool running;
+    struct whakelouna_params params;
+    struct whakelouna_master master;
+    struct whakelouna_device device;
+    struct whakelouna_histogram histogram;
+};
+
+struct whakelouna_bench {
+    struct whakelouna_port ports[8];
+};
+
+// The number and the offset of 01's answer; for each end what is handed on (0 fresh octets, 1 release goes on, 2 safe values, 3 nothing) and
+// whether it releases after the call. In a refusal and in a parameter block: nothing, and not released.
+struct whakelouna_reply {
+    uint8_t number, offset, master, device;
+    bool master_releases, device_releases;
+};
+
+// The bench after a call; a refusal leaves it as it was.
+struct whakelouna_bench_told {
+    struct whakelouna_bench bench;
+    struct whakelouna_reply reply;
+};
+
+// The lengths of an incoming image's parts, the SPDU first; zeros in a refusal.
+struct whakelouna_split_told {
+    uint8_t number;
+    size_t spdu, other;
+};
+
+// What a port shows beside the answer's number; in a refusal, what a port that never ran shows.
+struct whakelouna_bins_told {
+    uint8_t number;
+    uint32_t bins[32];
+    uint32_t total;
+    bool frozen;
+};
+
+struct whakelouna_master_told {
+    uint8_t number;
+    struct whakelouna_master master;
+};
+
+struct whakelouna_device_told {
+    uint8_t number;
+    struct whakelouna_device device;
+};
+
+// A bench on which no port runs.
+struct whakelouna_bench whakelouna_new_bench(void);
+
+// A parameter block of any length, with its clock reading in ms.
+struct whakelouna_bench_told whakelouna_set_parameters(struct whakelouna_bench bench, uint8_t port, uint32_t at, const uint8_t *octets, size_t length);
+
+// What happens at a port, with the clock reading. `safe` are zeros, as many as the SPDU has process octets: of the FS-Master's incoming SPDU
+// in a response and an operator call, of the FS-Device's in a request; a clock call takes both.
+struct whakelouna_bench_told whakelouna_receive_response(struct whakelouna_bench bench, uint8_t port, uint32_t at,
+    const uint8_t *spdu, size_t spdu_length, const uint8_t *safe, size_t safe_length);
+struct whakelouna_bench_told whakelouna_receive_request(struct whakelouna_bench bench, uint8_t port, uint32_t at,
+    const uint8_t *spdu, size_t spdu_length, const uint8_t *safe, size_t safe_length);
+struct whakelouna_bench_told whakelouna_clock(struct whakelouna_bench bench, uint8_t port, uint32_t at,
+    const uint8_t *safe_in, size_t safe_in_length, const uint8_t *safe_out, size_t safe_out_length);
+struct whakelouna_bench_told whakelouna_operator(struct whakelouna_bench bench, uint8_t port, uint32_t at, bool setSD_C, bool ChFAck_C,
+    const uint8_t *safe, size_t safe_length);
+
+// The FS-Master's outgoing image (its SPDU, then the other data) and the FS-Device's outgoing SPDU. Each fills its last buffer, which overlaps
+// with nothing else that is passed, and returns 0; in a refusal it writes nothing and returns the answer's number.
+uint8_t whakelouna_compose(struct whakelouna_bench bench, uint8_t port, const uint8_t *process, size_t process_length,
+    const uint8_t *other, size_t other_length, uint8_t *octets, size_t length);
+uint8_t whakelouna_build_response(struct whakelouna_bench bench, uint8_t port, const uint8_t *process, size_t process_length,
+    uint8_t *out, size_t out_length);
+
+// The FS-Master's incoming image.
+struct whakelouna_split_told whakelouna_split(struct whakelouna_bench bench, uint8_t port, const uint8_t *octets, size_t length);
+
+// What a port shows.
+struct whakelouna_trend whakelouna_trend(struct whakelouna_bench bench, uint8_t port);
+struct whakelouna_bins_told whakelouna_bins(struct whakelouna_bench bench, uint8_t port);
+struct whakelouna_master_told whakelouna_master(struct whakelouna_bench bench, uint8_t port);
+struct whakelouna_device_told whakelouna_device(struct whakelouna_bench bench, uint8_t port);
+
 #endif

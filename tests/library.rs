@@ -103,6 +103,73 @@ extern "C" {
     fn whakelouna_device_first(at: u32) -> Device;
     fn whakelouna_device_request(d: Device, w: u16, at: u32, request: Request) -> DeviceOutcome;
     fn whakelouna_device_clock(d: Device, w: u16, at: u32) -> DeviceOutcome;
+    fn whakelouna_new_bench() -> Bench;
+    fn whakelouna_set_parameters(
+        bench: Bench,
+        port: u8,
+        at: u32,
+        octets: *const u8,
+        length: usize,
+    ) -> BenchTold;
+    fn whakelouna_receive_response(
+        bench: Bench,
+        port: u8,
+        at: u32,
+        spdu: *const u8,
+        length: usize,
+        safe: *const u8,
+        safe_length: usize,
+    ) -> BenchTold;
+    fn whakelouna_receive_request(
+        bench: Bench,
+        port: u8,
+        at: u32,
+        spdu: *const u8,
+        length: usize,
+        safe: *const u8,
+        safe_length: usize,
+    ) -> BenchTold;
+    fn whakelouna_clock(
+        bench: Bench,
+        port: u8,
+        at: u32,
+        safe_in: *const u8,
+        safe_in_length: usize,
+        safe_out: *const u8,
+        safe_out_length: usize,
+    ) -> BenchTold;
+    fn whakelouna_operator(
+        bench: Bench,
+        port: u8,
+        at: u32,
+        set_sd_c: bool,
+        ack_c: bool,
+        safe: *const u8,
+        safe_length: usize,
+    ) -> BenchTold;
+    fn whakelouna_compose(
+        bench: Bench,
+        port: u8,
+        process: *const u8,
+        process_length: usize,
+        other: *const u8,
+        other_length: usize,
+        octets: *mut u8,
+        length: usize,
+    ) -> u8;
+    fn whakelouna_build_response(
+        bench: Bench,
+        port: u8,
+        process: *const u8,
+        process_length: usize,
+        out: *mut u8,
+        out_length: usize,
+    ) -> u8;
+    fn whakelouna_split(bench: Bench, port: u8, octets: *const u8, length: usize) -> SplitTold;
+    fn whakelouna_trend(bench: Bench, port: u8) -> Trend;
+    fn whakelouna_bins(bench: Bench, port: u8) -> BinsTold;
+    fn whakelouna_master(bench: Bench, port: u8) -> MasterTold;
+    fn whakelouna_device(bench: Bench, port: u8) -> DeviceTold;
 }
 
 #[repr(C)]
@@ -114,7 +181,7 @@ pub struct BlockAnswer {
 
 /// The elements of 000 Table 22 that an accepted block hands on.
 #[repr(C)]
-#[derive(Clone, Copy)]
+#[derive(Clone, Copy, Debug, PartialEq)]
 pub struct Params {
     pub port_mode: u8,
     pub validation_backup: u8,
@@ -237,6 +304,75 @@ pub struct DeviceOutcome {
     pub mark: u8,
 }
 
+/// A port with both its ends.
+#[repr(C)]
+#[derive(Clone, Copy, Debug, PartialEq)]
+pub struct Port {
+    pub running: bool,
+    pub params: Params,
+    pub master: Master,
+    pub device: Device,
+    pub histogram: Histogram,
+}
+
+/// Ports 1 to 8.
+#[repr(C)]
+#[derive(Clone, Copy, Debug, PartialEq)]
+pub struct Bench {
+    pub ports: [Port; 8],
+}
+
+/// What a call with a reading says. Marks: 0 fresh octets, 1 release goes on, 2 safe values, 3 nothing.
+#[repr(C)]
+#[derive(Clone, Copy, Debug, PartialEq)]
+pub struct ReplyTold {
+    pub number: u8,
+    pub offset: u8,
+    pub master: u8,
+    pub device: u8,
+    pub master_releases: bool,
+    pub device_releases: bool,
+}
+
+#[repr(C)]
+#[derive(Clone, Copy, Debug, PartialEq)]
+pub struct BenchTold {
+    pub bench: Bench,
+    pub reply: ReplyTold,
+}
+
+/// The lengths of an incoming image's two parts.
+#[repr(C)]
+#[derive(Clone, Copy, Debug, PartialEq)]
+pub struct SplitTold {
+    pub number: u8,
+    pub spdu: usize,
+    pub other: usize,
+}
+
+#[repr(C)]
+#[derive(Clone, Copy, Debug, PartialEq)]
+pub struct BinsTold {
+    pub number: u8,
+    pub bins: [u32; 32],
+    pub total: u32,
+    pub frozen: bool,
+}
+
+#[repr(C)]
+#[derive(Clone, Copy, Debug, PartialEq)]
+pub struct MasterTold {
+    pub number: u8,
+    pub master: Master,
+}
+
+#[repr(C)]
+#[derive(Clone, Copy, Debug, PartialEq)]
+pub struct DeviceTold {
+    pub number: u8,
+    pub device: Device,
+}
+
 // No exported function asks anything of the values it is given, so each call below needs only
 // references that hold, and a pointer and a length that come from one slice.
 
@@ -326,6 +462,87 @@ pub fn device_request(d: Device, w: u16, at: u32, request: Request) -> DeviceOut
 
 pub fn device_clock(d: Device, w: u16, at: u32) -> DeviceOutcome {
     unsafe { whakelouna_device_clock(d, w, at) }
+}
+
+// The bench is passed by value; the caller's copy stays as it is.
+
+pub fn new_bench() -> Bench {
+    unsafe { whakelouna_new_bench() }
+}
+
+pub fn set_parameters(bench: &Bench, port: u8, at: u32, octets: &[u8]) -> BenchTold {
+    unsafe { whakelouna_set_parameters(*bench, port, at, octets.as_ptr(), octets.len()) }
+}
+
+pub fn receive_response(bench: &Bench, port: u8, at: u32, spdu: &[u8], safe: &[u8]) -> BenchTold {
+    let (octets, zeros) = (spdu.as_ptr(), safe.as_ptr());
+    unsafe { whakelouna_receive_response(*bench, port, at, octets, spdu.len(), zeros, safe.len()) }
+}
+
+pub fn receive_request(bench: &Bench, port: u8, at: u32, spdu: &[u8], safe: &[u8]) -> BenchTold {
+    let (octets, zeros) = (spdu.as_ptr(), safe.as_ptr());
+    unsafe { whakelouna_receive_request(*bench, port, at, octets, spdu.len(), zeros, safe.len()) }
+}
+
+pub fn clock(bench: &Bench, port: u8, at: u32, safe_in: &[u8], safe_out: &[u8]) -> BenchTold {
+    let (zeros_in, zeros_out) = (safe_in.as_ptr(), safe_out.as_ptr());
+    unsafe {
+        whakelouna_clock(*bench, port, at, zeros_in, safe_in.len(), zeros_out, safe_out.len())
+    }
+}
+
+/// `signals` are setSD_C and ChFAck_C.
+pub fn operator(bench: &Bench, port: u8, at: u32, signals: [bool; 2], safe: &[u8]) -> BenchTold {
+    let zeros = safe.as_ptr();
+    unsafe { whakelouna_operator(*bench, port, at, signals[0], signals[1], zeros, safe.len()) }
+}
+
+pub fn compose(bench: &Bench, port: u8, process: &[u8], other: &[u8], octets: &mut [u8]) -> u8 {
+    unsafe {
+        whakelouna_compose(
+            *bench,
+            port,
+            process.as_ptr(),
+            process.len(),
+            other.as_ptr(),
+            other.len(),
+            octets.as_mut_ptr(),
+            octets.len(),
+        )
+    }
+}
+
+pub fn build_response(bench: &Bench, port: u8, process: &[u8], out: &mut [u8]) -> u8 {
+    unsafe {
+        whakelouna_build_response(
+            *bench,
+            port,
+            process.as_ptr(),
+            process.len(),
+            out.as_mut_ptr(),
+            out.len(),
+        )
+    }
+}
+
+pub fn split(bench: &Bench, port: u8, octets: &[u8]) -> SplitTold {
+    unsafe { whakelouna_split(*bench, port, octets.as_ptr(), octets.len()) }
+}
+
+pub fn trend(bench: &Bench, port: u8) -> Trend {
+    unsafe { whakelouna_trend(*bench, port) }
+}
+
+pub fn bins(bench: &Bench, port: u8) -> BinsTold {
+    unsafe { whakelouna_bins(*bench, port) }
+}
+
+pub fn master(bench: &Bench, port: u8) -> MasterTold {
+    unsafe { whakelouna_master(*bench, port) }
+}
+
+pub fn device(bench: &Bench, port: u8) -> DeviceTold {
+    unsafe { whakelouna_device(*bench, port) }
 }
 
 /// The two signature tables.
