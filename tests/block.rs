@@ -1,12 +1,14 @@
 // The library's judgement of a parameter block against the model's, over many blocks.
 // Argument: the seed of the random inputs, or none.
 
+mod as_model;
 mod comparisons;
 mod good_blocks;
 mod library;
 mod model;
 mod random;
 
+use as_model::numbers;
 use comparisons::{octets_text, Comparisons};
 use good_blocks::{
     describe, good, most_other, process_bounds, Block, Kind, INPUT, KINDS, OUTPUT, VIOLATIONS,
@@ -52,37 +54,6 @@ fn library_answer(octets: &[u8], port: u8) -> Answer {
         offset: answer.offset.into(),
         parameters: numbers(&answer.params),
     }
-}
-
-/// In the order of 000 Table 22.
-fn numbers(params: &library::Params) -> [u32; 25] {
-    [
-        params.port_mode.into(),
-        params.validation_backup.into(),
-        params.iq_behavior.into(),
-        params.port_cycle_time.into(),
-        params.vendor_id.into(),
-        params.device_id,
-        params.input_data_length.into(),
-        params.output_data_length.into(),
-        params.fscp_authenticity1,
-        params.fscp_authenticity2,
-        params.fsp_port.into(),
-        params.fsp_prot_version.into(),
-        params.fsp_prot_mode.into(),
-        params.fsp_watchdog_time.into(),
-        params.fsp_tech_par_crc,
-        params.spdu_in_length.into(),
-        params.total_of_in_bits.into(),
-        params.total_of_in_octets.into(),
-        params.total_of_in_int16.into(),
-        params.total_of_in_int32.into(),
-        params.spdu_out_length.into(),
-        params.total_of_out_bits.into(),
-        params.total_of_out_octets.into(),
-        params.total_of_out_int16.into(),
-        params.total_of_out_int32.into(),
-    ]
 }
 
 fn signed(mut block: Block) -> Block {

@@ -1,11 +1,13 @@
 // The library's histogram and trend point (document 01) against a model that keeps every sample.
 // Argument: the seed of the random inputs, or none.
 
+mod as_model;
 mod comparisons;
 mod library;
 mod model;
 mod random;
 
+use as_model::point_read;
 use comparisons::Comparisons;
 use library::Histogram;
 use model::histogram::{Earlier, Point, Samples, LIMIT};
@@ -25,11 +27,6 @@ struct Shown {
 
 fn shown(histogram: Histogram) -> Shown {
     let trend = library::trend_of(histogram);
-    let point = Point {
-        mean: trend.point.mean.to_bits(),
-        lowest: trend.point.lowest.to_bits(),
-        highest: trend.point.highest.to_bits(),
-    };
     Shown {
         bins: histogram.bins.map(u64::from),
         total: histogram.total.into(),
@@ -37,7 +34,7 @@ fn shown(histogram: Histogram) -> Shown {
         lowest: histogram.lowest,
         highest: histogram.highest,
         frozen: library::frozen(histogram),
-        trend: (trend.number, point),
+        trend: (trend.number, point_read(&trend.point)),
     }
 }
 

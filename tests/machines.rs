@@ -2,11 +2,13 @@
 // end alone, and with both ends joined by a channel that loses, damages, delays and repeats.
 // Argument: the seed of the random inputs, or none.
 
+mod as_model;
 mod comparisons;
 mod library;
 mod model;
 mod random;
 
+use as_model::{device_read, master_read};
 use comparisons::Comparisons;
 use library::{Device, DeviceOutcome, Master, MasterOutcome, Request, Response};
 use model::machines::{elapsed, DeviceModel, MasterModel, Received, Said};
@@ -39,43 +41,6 @@ fn request(received: &Received) -> Request {
         port_holds: received.port,
         signature_holds: received.signature,
         all_zero: received.zeros,
-    }
-}
-
-fn master_read(m: &Master) -> MasterModel {
-    MasterModel {
-        state: m.state,
-        m_count: m.MCount,
-        set_sd: m.setSD,
-        sd_set_s: m.SDset_S,
-        request: m.ChFAckReq,
-        request_s: m.ChFAckReq_S,
-        edge: m.ChFAck_C_e,
-        set_sd_c: m.setSD_C,
-        ack_c: m.ChFAck_C,
-        previous: m.previous.then_some((m.carried, m.awaited)),
-        timer: m.runs.then_some(m.MTimer),
-        sample: m.sample,
-        uses_pd: m.released,
-    }
-}
-
-fn device_read(d: &Device) -> DeviceModel {
-    DeviceModel {
-        state: d.state,
-        sd_cycles: d.SDcycles,
-        comm_err_count: d.CommErrCount,
-        timeout_count: d.TimeoutCount,
-        d_comm_err: d.DCommErr,
-        d_timeout: d.DTimeout,
-        sd_set: d.SDset,
-        set_sd_dc: d.setSD_DC,
-        request_dc: d.ChFAckReq_DC,
-        d_count_i: d.DCount_i,
-        m_count: d.MCount,
-        timer: d.runs.then_some(d.DTimer),
-        uses_pd: d.released,
-        responded: d.responded,
     }
 }
 

@@ -2,6 +2,7 @@
 // Each test program uses only some of it.
 #![allow(dead_code)]
 
+pub mod bench;
 pub mod block;
 pub mod histogram;
 pub mod machines;
