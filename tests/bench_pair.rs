@@ -1,0 +1,256 @@
+// The library's bench and the model's side by side: each call goes to both, and the answer, what is handed on, every octet lent
+// and the whole bench after it are compared.
+
+use crate::as_model::{device_read, master_read, point_read, port_read};
+use crate::comparisons::Comparisons;
+use crate::library::{self, Bench, BenchTold, ReplyTold};
+use crate::model::bench::{BenchModel, Reply, Shown};
+use crate::random::Random;
+
+/// The octets on either side of a buffer that is written.
+const GUARD: usize = 16;
+
+pub struct Pair {
+    pub comparisons: Comparisons,
+    pub bench: Bench,
+    pub model: BenchModel,
+    /// What the model's ports show. A call changes no port but the one addressed, so that the others are not asked again.
+    expected: [Shown; 8],
+    pub calls: u64,
+    /// How often each number was answered, 13 being a session's alone, and how often each row was taken.
+    pub answers: [u64; 13],
+    pub rows: [u64; 32],
+}
+
+/// A buffer with octets on either side of the part that is lent.
+pub struct Lent {
+    octets: Vec<u8>,
+    start: usize,
+    end: usize,
+}
+
+impl Lent {
+    pub fn new(random: &mut Random, size: usize) -> Lent {
+        let start = GUARD + random.below(8);
+        let end = start + size;
+        Lent { octets: random.octets(end + GUARD), start, end }
+    }
+}
+
+fn reply_read(reply: &ReplyTold) -> Reply {
+    Reply {
+        number: reply.number,
+        offset: reply.offset.into(),
+        marks: [reply.master, reply.device],
+        releases: [reply.master_releases, reply.device_releases],
+    }
+}
+
+fn all_shown(model: &BenchModel) -> [Shown; 8] {
+    std::array::from_fn(|place| model.shown(place as u8 + 1))
+}
+
+impl Pair {
+    pub fn new() -> Pair {
+        let model = BenchModel::new();
+        Pair {
+            comparisons: Comparisons::new("bench"),
+            bench: library::new_bench(),
+            expected: all_shown(&model),
+            model,
+            calls: 0,
+            answers: [0; 13],
+            rows: [0; 32],
+        }
+    }
+
+    /// Both anew: no port runs.
+    pub fn start(&mut self) {
+        self.take_rows();
+        self.model = BenchModel::new();
+        self.expected = all_shown(&self.model);
+        self.bench = library::new_bench();
+        let bench = self.bench;
+        self.compare_bench("new_bench", 0, &bench);
+    }
+
+    /// Adds the rows that the model took so far to those of the run.
+    pub fn take_rows(&mut self) {
+        for (count, taken) in self.rows.iter_mut().zip(&mut self.model.rows) {
+            *count += std::mem::take(taken);
+        }
+    }
+
+    /// After the model, or the library's bench, was changed by hand.
+    pub fn expect_again(&mut self, port: u8) {
+        self.expected[usize::from(port) - 1] = self.model.shown(port);
+    }
+
+    pub fn compare<T: PartialEq + std::fmt::Debug>(
+        &mut self,
+        call: &str,
+        port: u8,
+        expected: T,
+        found: T,
+    ) {
+        let calls = self.calls;
+        self.comparisons
+            .compare(expected, found, || format!("{call} at port {port}, call {calls}"));
+    }
+
+    fn compare_bench(&mut self, call: &str, port: u8, found: &Bench) {
+        let calls = self.calls;
+        for (place, (expected, found)) in self.expected.iter().zip(&found.ports).enumerate() {
+            self.comparisons.compare(expected, &port_read(found), || {
+                format!("port {} after {call} at port {port}, call {calls}", place + 1)
+            });
+        }
+    }
+
+    /// "A refusal changes no state", and a call at one port none of another's: in every field, also those that the model
+    /// has no use for.
+    fn compare_untouched(&mut self, call: &str, port: u8, number: u8, found: &Bench) {
+        let may_change = |place: usize| number == 0 && place + 1 == usize::from(port);
+        let changed = (0..8)
+            .find(|&place| !may_change(place) && self.bench.ports[place] != found.ports[place]);
+        self.compare(call, port, None, changed);
+    }
+
+    fn count(&mut self, number: u8) {
+        self.calls += 1;
+        self.answers[usize::from(number)] += 1;
+    }
+
+    fn follow(&mut self, call: &str, port: u8, expected: Reply, told: BenchTold) -> Reply {
+        self.count(expected.number);
+        self.compare(call, port, expected, reply_read(&told.reply));
+        if expected.number == 0 {
+            self.expect_again(port);
+        }
+        self.compare_bench(call, port, &told.bench);
+        self.compare_untouched(call, port, expected.number, &told.bench);
+        self.bench = told.bench;
+        expected
+    }
+
+    pub fn set_parameters(&mut self, port: u8, at: u32, octets: &[u8]) -> Reply {
+        let expected = self.model.set_parameters(port, at, octets);
+        let told = library::set_parameters(&self.bench, port, at, octets);
+        self.follow("set_parameters", port, expected, told)
+    }
+
+    pub fn receive_response(&mut self, port: u8, at: u32, spdu: &[u8], safe: &[u8]) -> Reply {
+        let expected = self.model.receive_response(port, at, spdu, safe);
+        let told = library::receive_response(&self.bench, port, at, spdu, safe);
+        self.follow("receive_response", port, expected, told)
+    }
+
+    pub fn receive_request(&mut self, port: u8, at: u32, spdu: &[u8], safe: &[u8]) -> Reply {
+        let expected = self.model.receive_request(port, at, spdu, safe);
+        let told = library::receive_request(&self.bench, port, at, spdu, safe);
+        self.follow("receive_request", port, expected, told)
+    }
+
+    pub fn clock(&mut self, port: u8, at: u32, safe_in: &[u8], safe_out: &[u8]) -> Reply {
+        let expected = self.model.clock(port, at, safe_in, safe_out);
+        let told = library::clock(&self.bench, port, at, safe_in, safe_out);
+        self.follow("clock", port, expected, told)
+    }
+
+    pub fn operator(&mut self, port: u8, at: u32, signals: [bool; 2], safe: &[u8]) -> Reply {
+        let expected = self.model.operator(port, at, signals, safe);
+        let told = library::operator(&self.bench, port, at, signals, safe);
+        self.follow("operator", port, expected, told)
+    }
+
+    /// The whole buffer is compared. The part lent, where the call was taken.
+    fn written(
+        &mut self,
+        call: &str,
+        port: u8,
+        lent: Lent,
+        expected: impl FnOnce(&BenchModel, &[u8]) -> (u8, Vec<u8>),
+        found: impl FnOnce(&Bench, &mut [u8]) -> u8,
+    ) -> Option<Vec<u8>> {
+        let Lent { octets, start, end } = lent;
+        let (number, part) = expected(&self.model, &octets[start..end]);
+        let whole = [&octets[..start], &part, &octets[end..]].concat();
+        let mut buffer = octets;
+        let found = found(&self.bench, &mut buffer[start..end]);
+        self.count(number);
+        self.compare(call, port, (number, whole), (found, buffer));
+        (number == 0).then_some(part)
+    }
+
+    pub fn compose(
+        &mut self,
+        port: u8,
+        process: &[u8],
+        other: &[u8],
+        lent: Lent,
+    ) -> Option<Vec<u8>> {
+        self.written(
+            "compose",
+            port,
+            lent,
+            |model, image| model.compose(port, process, other, image),
+            |bench, image| library::compose(bench, port, process, other, image),
+        )
+    }
+
+    pub fn build_response(&mut self, port: u8, process: &[u8], lent: Lent) -> Option<Vec<u8>> {
+        self.written(
+            "build_response",
+            port,
+            lent,
+            |model, buffer| model.build_response(port, process, buffer),
+            |bench, buffer| library::build_response(bench, port, process, buffer),
+        )
+    }
+
+    /// The lengths of the SPDU and of the other data.
+    pub fn split(&mut self, port: u8, image: &[u8]) -> (usize, usize) {
+        let expected = self.model.split(port, image);
+        let told = library::split(&self.bench, port, image);
+        self.count(expected.0);
+        self.compare("split", port, expected, (told.number, told.spdu, told.other));
+        (expected.1, expected.2)
+    }
+
+    pub fn trend(&mut self, port: u8) {
+        let expected = self.model.trend(port);
+        let told = library::trend(&self.bench, port);
+        self.count(expected.0);
+        self.compare("trend", port, expected, (told.number, point_read(&told.point)));
+    }
+
+    pub fn bins(&mut self, port: u8) {
+        let expected = self.model.bins(port);
+        let told = library::bins(&self.bench, port);
+        let found = (told.number, told.bins.map(u64::from), told.total.into(), told.frozen);
+        self.count(expected.0);
+        self.compare("bins", port, expected, found);
+    }
+
+    pub fn master(&mut self, port: u8) {
+        let expected = self.model.master(port);
+        let told = library::master(&self.bench, port);
+        self.count(expected.0);
+        self.compare("master", port, expected, (told.number, master_read(&told.master)));
+    }
+
+    pub fn device(&mut self, port: u8) {
+        let expected = self.model.device(port);
+        let told = library::device(&self.bench, port);
+        self.count(expected.0);
+        self.compare("device", port, expected, (told.number, device_read(&told.device)));
+    }
+
+    /// All that shows a port.
+    pub fn show(&mut self, port: u8) {
+        self.trend(port);
+        self.bins(port);
+        self.master(port);
+        self.device(port);
+    }
+}
