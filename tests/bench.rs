@@ -18,7 +18,7 @@ use model::block::{put, sign, LENGTH};
 use model::spdu::{Direction, Format, Values};
 use random::Random;
 
-const HISTORIES: usize = 250;
+const HISTORIES: usize = 220;
 const CALLS: usize = 2000;
 const ROWS: [usize; 13] = [4, 7, 8, 11, 12, 13, 14, 22, 25, 28, 29, 30, 31];
 
@@ -173,7 +173,7 @@ impl Histories<'_> {
         block_for(self.random, port, w)
     }
 
-    /// Of another size, with another port's number, with a wrong signature, one bit damaged, or with one rule broken.
+    /// Of another size, with another port's number, with a wrong signature, one bit damaged, or with one or two rules broken.
     fn bad_octets(&mut self, port: u8) -> Vec<u8> {
         let mut block = self.good_block(port);
         match self.random.below(6) {
@@ -190,8 +190,10 @@ impl Histories<'_> {
             2 => block[[23, 29, 35][self.random.below(3)]] ^= 1 << self.random.below(8),
             3 => block[self.random.below(LENGTH)] ^= 1 << self.random.below(8),
             _ => {
-                let (_, _, violate) = VIOLATIONS[self.random.below(VIOLATIONS.len())];
-                violate(self.random, &mut block);
+                for _ in 0..1 + self.random.below(2) {
+                    let (_, _, violate) = VIOLATIONS[self.random.below(VIOLATIONS.len())];
+                    violate(self.random, &mut block);
+                }
                 if self.random.flag() {
                     sign(&mut block);
                 }
@@ -205,13 +207,13 @@ impl Histories<'_> {
     /// Small steps; to the watchdog's end, just past it, back, and any.
     fn pass_time(&mut self, port: u8) -> u32 {
         let w = u32::from(self.line(port).w);
-        let step = match self.random.below(100) {
+        let step = match self.random.below(150) {
             0 => w,
             1 => w + 1,
             2 => w + self.random.below(4) as u32,
             3 => self.random.number() as u32,
             4 => 0u32.wrapping_sub(1 + self.random.below(5) as u32),
-            5..=20 => 0,
+            5..=30 => 0,
             _ => self.random.below(1 + w as usize / 3) as u32,
         };
         let line = self.line(port);
@@ -258,7 +260,7 @@ impl Histories<'_> {
     fn arriving(&mut self, port: u8, direction: Direction) -> Vec<u8> {
         let length = self.way(port, direction).length;
         let [last, before] = self.line(port).sent(direction).clone();
-        match self.random.below(80) {
+        match self.random.below(120) {
             0..=2 => before,
             3..=5 => self.damaged(last),
             6 => vec![0; length],
