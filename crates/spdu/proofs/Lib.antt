@@ -5,6 +5,7 @@ pub mod Trailer
 pub mod Buffers
 pub mod Parts
 pub mod Composed
+pub mod Held
 pub mod Numbers
 pub mod Modes
 pub mod ReadBack

@@ -3,5 +3,6 @@ pub mod Places
 pub mod Fields
 pub mod Built
 pub mod Image
+pub mod Recording
 pub mod Flips
 pub mod RoundTrip

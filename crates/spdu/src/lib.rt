@@ -5,6 +5,7 @@ mod build;
 mod image;
 mod plain;
 mod read;
+mod recording;
 
 pub use build::build_request_by;
 pub use build::build_response_by;
@@ -19,8 +20,10 @@ pub use plain::build_response;
 pub use plain::compose;
 pub use plain::read_request;
 pub use plain::read_response;
+pub use plain::signatures_held;
 pub use read::read_request_by;
 pub use read::read_response_by;
+pub use recording::signatures_held_by;
 
 // What an FS-Master reads of a received SPDU (000 Table 32).
 #[repr(C)]

@@ -5,6 +5,7 @@ ghost use Rattle.spdu.specs.Signature.{byBits};
 ghost use Rattle.spdu.specs.Fields.{responseBy, requestBy};
 ghost use Rattle.spdu.specs.Built.{builtAs, buffersHold, requestBuilt, responseBuilt};
 ghost use Rattle.spdu.specs.Image.{composerHolds, composed};
+ghost use Rattle.spdu.specs.Recording.{signaturesHeld};
 use crate::Request;
 use crate::Response;
 use answer::Answer;
@@ -96,4 +97,12 @@ pub fn compose(
         other,
         octets,
     )
+}
+
+pub fn signatures_held(mode: u8, n: u8, octets: &[u8]) -> usize
+    ensures { λ r. ⌜ r ≡ signaturesHeld byBits mode n (now (octets .entry)) ⌝ }
+{
+    let short = signature::table16();
+    let long = signature::table32();
+    crate::recording::signatures_held_by(&short, &long, mode, n, octets)
 }

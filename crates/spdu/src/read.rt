@@ -47,7 +47,7 @@ pub(crate) fn replace(x: u32) -> u32
     if x == 0 { 1 } else { x }
 }
 
-fn word(a: u8, b: u8) -> u16
+pub(crate) fn word(a: u8, b: u8) -> u16
     ensures { λ r. ⌜ r ≡ octets.word a b ⌝ }
 {
     a as u16 * 256 + b as u16
