@@ -1,4 +1,5 @@
-// Safety PDUs (000 11.4): what is read of one, how one is built, its place in the process data image, and the values handed on.
+// Safety PDUs (000 11.4): what is read of one, how one is built, its place in the process data image, the values handed on, and how many of a
+// recording have a signature that holds.
 //
 // A function whose name ends in `_by` takes the two signature tables, lent, so that a loop names them once; it takes any tables.
 mod build;

@@ -27,7 +27,7 @@ whole-holds-requires c κs =
     let at-loop = c .before .before in
     let at-if = at-loop .before in
     let args = at-if .before .before .before .args in
-    rw (part-length (args .octets .now) (at-loop .loop .at) (args .n) (c .before .loop-test .taken))
+    rw (part-length (args .octets .now) (at-loop .loop .at) (args .n) (omega (arith, c .before .loop-test .taken)))
     (simp (at-if .before .safety-octets .ensures) at (at-if .if1 .left))
 
 add-held : tie.Need-add-held Inv-loop μ-loop
@@ -47,7 +47,7 @@ loop-again c =
     again
     (at-test .before .loop .inv)
     (omega (arith, at-least-4 (at-safety .before .before .args .mode), at-safety .safety-octets .ensures))
-    (at-test .loop-test .taken)
+    (omega (arith, at-test .loop-test .taken))
     (c .one-if .ensures .0 ∙ ap (λ (b : Bool). cond b 1 0) (c .before .whole-holds .ensures))
     (c .one-if .ensures .1)
 
