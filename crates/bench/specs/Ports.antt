@@ -45,7 +45,7 @@ acceptedPort p params at = record {
   params = params;
   master = firstMaster at;
   device = firstDevice at;
-  histogram = clearedOf;
+  histogram = clearedOf;  -- "clears bins, total, trend and frozen mark"
 }
 
 unfoldable pub newBench : Bench
