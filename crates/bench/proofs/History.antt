@@ -66,9 +66,9 @@ module _ (at w : ℕ) (past : List Happening) (h : Happening) (k : Histogram) wh
     one-within true e = within-more (timeOf at w past h) within (in-time e)
     one-within false e = rw append-nil within
 
-    counted-on : Holds w (samples at w (h ∷ past)) (stepped k h (masterAfter at w past) w)
+    counted-on : Holds w (samples at w (h ∷ past)) (cond (isSample at w past h) (countedOf k w (timeOf at w past h)) k)
     unfolding samples
-    counted-on = rw counts (one-more (isSample at w past h) refl)
+    counted-on = one-more (isSample at w past h) refl
 
     within-on : Within w (samples at w (h ∷ past))
     unfolding samples
@@ -78,15 +78,19 @@ module _ (p : Port) (at : ℕ) (params : Params) (past : List Happening) (s : St
   watchdog-is : p .params .«FSP_WatchdogTime» ≡ params .«FSP_WatchdogTime»
   watchdog-is = ap (λ (q : Params). q .«FSP_WatchdogTime») (s .parameters)
 
+  histogram-is : stepOf p h .port .histogram ≡ cond (isSample at (params .«FSP_WatchdogTime») past h) (countedOf (p .histogram) (params .«FSP_WatchdogTime») (timeOf at (params .«FSP_WatchdogTime») past h)) (p .histogram)
+  unfolding stepOf stepped
+  histogram-is = ap₂ (stepped (p .histogram) h) (s .master) watchdog-is ∙ counts at (params .«FSP_WatchdogTime») past h (p .histogram)
+
   step-stands : StandsSince (stepOf p h .port) at params (h ∷ past)
-  unfolding stepOf masterAfter deviceAfter stepped
+  unfolding stepOf masterAfter deviceAfter
   step-stands = record {
     running = s .running;
     parameters = s .parameters;
     master = ap₂ (λ (m : Master) (w : ℕ). masters.stepOf m w h .master) (s .master) watchdog-is;
     device = ap₂ (λ (d : Device) (w : ℕ). devices.stepOf d w h .device) (s .device) watchdog-is;
     counted =
-        rw (ap₂ (stepped (p .histogram) h) (s .master) watchdog-is)
+        rw histogram-is
         (counted-on at (params .«FSP_WatchdogTime») past h (p .histogram) (s .small) (s .within) (s .counted));
     within = within-on at (params .«FSP_WatchdogTime») past h (p .histogram) (s .small) (s .within) (s .counted);
     small = s .small;
