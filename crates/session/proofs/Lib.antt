@@ -1,3 +1,6 @@
 pub mod Form
 pub mod Numeral
 pub mod Written
+pub mod Zeros
+pub mod Turn
+pub mod Link

@@ -1,8 +1,18 @@
 // A session: records of octets, each a call on the bench, and the lines of text that it comes to (document 01, "The session program").
+//
+// A program starts with `start`, hands on each block of octets to `feed` together with what the last call left of the block before, prints
+// what it wrote, and at the end of the input, or where a record is bad, prints what `finish` writes.
 mod read;
+mod run;
 mod text;
 
+use answer::Answer;
+use bench::Bench;
+use bench::Port;
 pub use read::read_record;
+pub use run::feed;
+pub use run::finish;
+pub use run::start;
 
 // What stands at a position of a session.
 pub enum Record {
@@ -20,4 +30,37 @@ pub enum Record {
     Cut,
     // There are no octets.
     End,
+}
+
+// How far a session has come: the bench, the whole records and those refused.
+pub struct State {
+    pub bench: Bench,
+    pub records: u64,
+    pub refused: u64,
+}
+
+// Why reading stopped.
+pub enum Stop {
+    // A whole record stands there, and there may be no room for its line.
+    Full,
+    // What stands there is no record: a 13.
+    Bad,
+    // A record begins there and is not whole: it goes on in the next block, or it is a 13.
+    Cut,
+    // All octets are used up.
+    End,
+}
+
+// After a block: how many of its octets are used up, and how many were written.
+pub struct Fed {
+    pub state: State,
+    pub used: usize,
+    pub written: usize,
+    pub stop: Stop,
+}
+
+// A record at the port in its place.
+pub(crate) struct Turned {
+    pub(crate) port: Port,
+    pub(crate) answer: Answer,
 }

@@ -1,0 +1,183 @@
+-- A run from its middle on: what the records read and the records to come make of the start. Assumes nothing.
+use Prim.Native.Nat.{ℕ, zero, suc, _+_, _-_, _/_, _≤_, _<_}
+use native.Mathlib.Omega.{arith}
+use mathlib.Core.Path.{_≡_, refl, sym, ap, _∙_}
+use mathlib.Core.Bool.{Bool, true, false, cond}
+use mathlib.Core.List.{List, [], _∷_, _++_, append-assoc, append-nil}
+use lib.ListN.{length, getD, set, take, drop, length-drop, take-append-drop}
+use lib.Seq.{drop-drop, length-take-le}
+use Rattle.answer.specs.declared.Answer.{Answer}
+use Rattle.spdu.specs.Signature.{byBits}
+use Rattle.bench.specs.declared.Bench.{Bench}
+use Rattle.bench.specs.Ports.{noPort}
+use Rattle.bench.specs.History.{answerOf, after}
+use Rattle.session.specs.declared.State.{State}
+use Rattle.session.specs.declared.Stop.{Stop}
+use Rattle.session.specs.declared.Turned.{Turned}
+use Rattle.session.specs.declared.Fed.{Fed}
+use Rattle.session.specs.Format.{portOf, lengthOf, sizeOf, Form, nothing, part, bad, whole, form}
+use Rattle.session.specs.Text.{Written}
+use Rattle.session.specs.Run.{
+  Entry,
+  entry,
+  entryOf,
+  isWhole,
+  recordsOf,
+  restOf,
+  callOf,
+  more,
+  refusedAfter,
+  applied,
+  lineFor,
+  lineOf,
+  ran,
+  told,
+  lineRoom,
+  stopOf,
+  fedOf,
+  fedText,
+  fronted,
+  turnBy,
+  placeOf,
+}
+use Rattle.session.proofs.Form.{Found}
+use Rattle.session.proofs.Turn.{turn-bench, turn-answer}
+use Rattle.session.proofs.Written.{agree}
+
+is-whole : {f : Form} → f ≡ whole → isWhole f ≡ true
+is-whole e = rw e
+
+-- where a whole record stands, it is the first
+pub first-record : (n : ℕ) (s : List ℕ) → form s ≡ whole → 0 < n → recordsOf n s ≡ entryOf s ∷ recordsOf (n - 1) (drop (sizeOf s) s)
+first-record zero s e h = absurd (omega arith)
+first-record (suc n) s e h = let m : suc n - 1 ≡ n = omega arith in rw (m, is-whole e)
+
+pub first-rest : (n : ℕ) (s : List ℕ) → form s ≡ whole → 0 < n → restOf n s ≡ restOf (n - 1) (drop (sizeOf s) s)
+first-rest zero s e h = absurd (omega arith)
+first-rest (suc n) s e h = let m : suc n - 1 ≡ n = omega arith in rw (m, is-whole e)
+
+-- where none stands, or none is asked for, there is none
+pub no-record : (n : ℕ) (s : List ℕ) → isWhole (form s) ≡ false → recordsOf n s ≡ []
+no-record zero s e = refl
+no-record (suc n) s e = rw e
+
+pub no-rest : (n : ℕ) (s : List ℕ) → isWhole (form s) ≡ false → restOf n s ≡ s
+no-rest zero s e = refl
+no-rest (suc n) s e = rw e
+
+-- of a run from st₀ over s of at most n records, which writes to out₀: st, at and w are how far it has come, and n′ records may follow
+pub record Link (st₀ : State) (s out₀ : List ℕ) (n : ℕ) (out : List ℕ) (st : State) (n′ at w : ℕ) : Type 0 where
+  pub state : ran st₀ (recordsOf n s) ≡ ran st (recordsOf n′ (drop at s))
+  pub rest : restOf n s ≡ restOf n′ (drop at s)
+  pub text : told st₀ (recordsOf n s) ≡ take w out ++ told st (recordsOf n′ (drop at s))
+  pub behind : drop w out ≡ drop w out₀
+
+pub begin : (st₀ : State) (s out₀ : List ℕ) (n : ℕ) → Link st₀ s out₀ n out₀ st₀ n 0 0
+begin st₀ s out₀ n = record { state = refl; rest = refl; text = refl; behind = refl }
+
+module _ {st₀ : State} {s out₀ : List ℕ} {n : ℕ} {out : List ℕ} {st : State} {n′ at w : ℕ} (l : Link st₀ s out₀ n out st n′ at w) where
+  pub again : {out′ line : List ℕ} {st′ : State} {next w′ : ℕ} → form (drop at s) ≡ whole → 0 < n′ → next ≡ at + sizeOf (drop at s)
+      → st′ ≡ applied st (entryOf (drop at s)) → line ≡ lineOf st (entryOf (drop at s)) → Written out w line w′ out′
+      → Link st₀ s out₀ n out′ st′ (n′ - 1) next w′
+  again {out′} {line} {st′} {next} {w′} f h hn hs hl v =
+      let x = drop at s in
+      let d : drop next s ≡ drop (sizeOf x) x = rw hn (sym (drop-drop (sizeOf x) at s)) in
+      let r : recordsOf n′ x ≡ entryOf x ∷ recordsOf (n′ - 1) (drop next s) = rw d (first-record n′ x f h) in
+      record {
+        state = l .state ∙ rw (r, hs);
+        rest = l .rest ∙ rw d (first-rest n′ x f h);
+        text = l .text ∙ rw (r, hs, v .front, hl) (sym (append-assoc (take w out) (lineOf st (entryOf x)) (told (applied st (entryOf x)) (recordsOf (n′ - 1) (drop next s)))));
+        behind = v .behind ∙ rw (v .end) (agree w (length line) out out₀ (l .behind));
+      }
+
+  -- nothing more is read
+  module _ (none : recordsOf n′ (drop at s) ≡ []) (left : restOf n′ (drop at s) ≡ drop at s) (a : at ≤ length s) (b : w ≤ length out) where
+    pub text-is : told st₀ (recordsOf n s) ≡ take w out
+    text-is = l .text ∙ rw none (append-nil (take w out))
+
+    pub rest-is : restOf n s ≡ drop at s
+    rest-is = l .rest ∙ left
+
+    pub state-is : ran st₀ (recordsOf n s) ≡ st
+    state-is = l .state ∙ rw none
+
+    pub used-is : at ≡ length s - length (restOf n s)
+    used-is = rw rest-is (omega (arith, length-drop at s))
+
+    pub written-is : w ≡ length (told st₀ (recordsOf n s))
+    written-is = rw text-is (sym (length-take-le w out b))
+
+    pub out-is : out ≡ fronted (told st₀ (recordsOf n s)) out₀
+    out-is = rw (← written-is, text-is, ← l .behind) (sym (take-append-drop w out))
+
+-- ---- What `feed` gives
+
+abbrev pub stateOf : Bench → ℕ → ℕ → State
+stateOf b records refused = record { bench = b; records = records; refused = refused }
+
+same-fed : {st st′ : State} {u u′ w w′ : ℕ} {z z′ : Stop} → st ≡ st′ → u ≡ u′ → w ≡ w′ → z ≡ z′
+    → _≡_ {A = Fed} (record { state = st; used = u; written = w; stop = z }) (record { state = st′; used = u′; written = w′; stop = z′ })
+same-fed {st} {st′} {u} {u′} {w} {w′} {z} {z′} a b c d = rw (a, b, c, d)
+
+module _ {st₀ st₁ : State} {s out₀ : List ℕ} {n : ℕ} {out : List ℕ} {st : State} {n′ at w : ℕ} (l : Link st₀ s out₀ n out st n′ at w)
+    (same : st₀ ≡ st₁) (room : n ≡ length out₀ / lineRoom)
+    (none : recordsOf n′ (drop at s) ≡ []) (left : restOf n′ (drop at s) ≡ drop at s) (a : at ≤ length s) (b : w ≤ length out) where
+  pub fed-is : {z : Stop} → z ≡ stopOf (form (drop at s)) → _≡_ {A = Fed} (record { state = st; used = at; written = w; stop = z }) (fedOf st₁ s (length out₀))
+  unfolding fedOf
+  fed-is {z} e =
+      rw (← same, ← room)
+      (same-fed (sym (state-is l none left a b)) (used-is l none left a b) (written-is l none left a b) (rw (rest-is l none left a b) e))
+
+  pub text-out : out ≡ fedText st₁ s out₀
+  unfolding fedText
+  text-out = rw (← same, ← room) (out-is l none left a b)
+
+-- a record read, its turn taken and its line written
+module _ (b : Bench) (records refused k m : ℕ) (e : Entry) (t : Turned) (hk : k ≡ placeOf (e .port))
+    (ht : t ≡ turnBy byBits (getD (b .ports) k noPort) e) (hm : m ≡ more records) where
+  answer-is : t .answer ≡ answerOf b (callOf b e)
+  answer-is = ap (λ (t : Turned). t .answer) ht ∙ ap (λ (k : ℕ). turnBy byBits (getD (b .ports) k noPort) e .answer) hk ∙ turn-answer b e
+
+  bench-is : record { ports = set (b .ports) k (t .port) } ≡ after b (callOf b e)
+  bench-is =
+      ap (λ (t : Turned). record { ports = set (b .ports) k (t .port) }) ht
+      ∙ ap (λ (k : ℕ). record { ports = set (b .ports) k (turnBy byBits (getD (b .ports) k noPort) e .port) }) hk
+      ∙ turn-bench b e
+
+  pub state-after : (r : ℕ) → r ≡ refusedAfter refused (t .answer)
+      → stateOf (record { ports = set (b .ports) k (t .port) }) m r ≡ applied (stateOf b records refused) e
+  unfolding applied
+  state-after r hr =
+      ap (λ (n : ℕ). stateOf (record { ports = set (b .ports) k (t .port) }) n r) hm
+      ∙ ap (λ (n : ℕ). stateOf (record { ports = set (b .ports) k (t .port) }) (more records) n) hr
+      ∙ ap (λ (z : Bench). stateOf z (more records) (refusedAfter refused (t .answer))) bench-is
+      ∙ ap (λ (a : Answer). stateOf (after b (callOf b e)) (more records) (refusedAfter refused a)) answer-is
+
+  pub line-after : lineFor m (t .answer) ≡ lineOf (stateOf b records refused) e
+  unfolding lineOf
+  line-after = ap (λ (n : ℕ). lineFor n (t .answer)) hm ∙ ap (λ (a : Answer). lineFor (more records) a) answer-is
+
+-- the record that stands at a position
+entry-found : (s : List ℕ) (at kind port clock start next : ℕ) → Found (form (drop at s)) (drop at s) at kind port clock start next
+    → entry kind port clock (take (next - start) (drop start s)) ≡ entryOf (drop at s)
+entry-found s at kind port clock start next f =
+    let len : next - start ≡ lengthOf (drop at s) = omega (arith, f .start, f .next) in
+    let from : drop start s ≡ drop 9 (drop at s) = rw (f .start) (sym (drop-drop 9 at s)) in
+    rw (len, from, f .kind, f .port, f .clock)
+
+module _ (st₀ : State) (s out₀ : List ℕ) (n : ℕ) (out : List ℕ) (b : Bench) (records refused n′ at w : ℕ)
+    (l : Link st₀ s out₀ n out (stateOf b records refused) n′ at w) where
+  pub stepped : (out′ : List ℕ) (kind port clock start next k m r w′ : ℕ) (t : Turned) (sign : ℕ → List ℕ → ℕ)
+      → Found (form (drop at s)) (drop at s) at kind port clock start next → 0 < n′ → sign ≡ byBits → k ≡ placeOf port
+      → t ≡ turnBy sign (getD (b .ports) k noPort) (entry kind port clock (take (next - start) (drop start s)))
+      → m ≡ more records → r ≡ refusedAfter refused (t .answer) → Written out w (lineFor m (t .answer)) w′ out′
+      → Link st₀ s out₀ n out′ (stateOf (record { ports = set (b .ports) k (t .port) }) m r) (n′ - 1) next w′
+  stepped out′ kind port clock start next k m r w′ t sign f h hs hk ht hm hr v =
+      let x = drop at s in
+      let q = getD (b .ports) k noPort in
+      let ht′ : t ≡ turnBy byBits q (entryOf x) =
+      ht
+      ∙ ap (λ (sign : ℕ → List ℕ → ℕ). turnBy sign q (entry kind port clock (take (next - start) (drop start s)))) hs
+      ∙ ap (λ (e : Entry). turnBy byBits q e) (entry-found s at kind port clock start next f) in
+      let hk′ : k ≡ placeOf (portOf x) = hk ∙ ap placeOf (f .port) in
+      again l (f .stands) h (f .next) (state-after b records refused k m (entryOf x) t hk′ ht′ hm r hr) (line-after b records refused k m (entryOf x) t hk′ ht′ hm) v

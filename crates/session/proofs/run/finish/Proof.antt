@@ -1,0 +1,36 @@
+use native.Mathlib.Omega.{arith}
+use borrow.Author.Tests.{lt-ltb, le-ltb, eq-eqb, ne-eqb}
+use Rattle.session.proofs.Written.{then, none, from-front}
+use Rattle.session.specs.Run.{finishText}
+use borrow.Author.Needs.{needs}
+use Rattle.session.proofs.run.finish.Statement.{statement}
+use Rattle.session.proofs.run.finish.Tie as tie
+use Rattle.session.proofs.run.finish.Reads as reads
+use Rattle.session.proofs.run.finish.Lts as lts
+use Rattle.session.proofs.run.close.Reads as close-reads
+
+-- src/run.rt:318:9
+returns : tie.Need-returns
+unfolding finishText
+returns c =
+    let e = lt-ltb _ _ (c .if1 .taken) in (rw e, rw e)
+
+-- src/run.rt:320:5
+close-requires : tie.Need-close-requires
+close-requires c κs = search needs
+
+-- src/run.rt:313:1
+same-length : tie.Need-same-length
+same-length c = search needs
+
+-- src/run.rt:313:1
+returns-2 : tie.Need-returns-2
+unfolding finishText
+returns-2 c =
+    let l = c .before .before in
+    let e = le-ltb _ _ (l .before .before .if1 .left) in
+    let w = l .close .ensures in
+    (rw e (omega (arith, w .end)), rw e (from-front w))
+
+pub finish-spec : {M : Type 1} → statement M
+finish-spec = tie.close (tie.spec returns close-requires same-length returns-2)

@@ -1,0 +1,220 @@
+-- 01, "The session program": a session is its whole records in order, each a call on the bench, and what is printed of them. What stands behind
+-- the last whole record, if anything, is a record cut short or a bad one: a 13, which ends reading and makes no call. Assumes nothing.
+use Prim.Native.Nat.{ℕ, zero, suc, _+_, _-_, _/_, _%_, _^_, min}
+use mathlib.Core.Bool.{Bool, true, false, cond, not, _&&_}
+use mathlib.Core.List.{List, [], _∷_, _++_}
+use lib.Dec.{eqb, ltb}
+use lib.ListN.{length, getD, drop, replicate}
+use Rattle.answer.specs.declared.Answer.{Answer}
+use Rattle.answer.specs.declared.Answer.the-variants as answers
+use Rattle.answer.specs.Answers.{numberOf, isTaken}
+use Rattle.ranges.specs.Fields.{outside}
+use Rattle.block.specs.declared.Params.{Params}
+use Rattle.spdu.specs.Places.{processOctets}
+use Rattle.spdu.specs.Fields.{responseBy}
+use Rattle.bench.specs.declared.Port.{Port}
+use Rattle.bench.specs.declared.Bench.{Bench}
+use Rattle.bench.specs.declared.PortAfter.{PortAfter}
+use Rattle.bench.specs.Ports.{newPort, newBench, portAt}
+use Rattle.bench.specs.Calls as calls
+use Rattle.bench.specs.History.{Call, SetParameters, ReceiveResponse, Clock, Operator, answerOf, after, history}
+use Rattle.session.specs.declared.State.{State}
+use Rattle.session.specs.declared.Fed.{Fed}
+use Rattle.session.specs.declared.Turned.{Turned}
+use Rattle.session.specs.declared.Stop.{Stop}
+use Rattle.session.specs.declared.Stop.the-variants.{Full, Bad, Cut, End}
+use Rattle.session.specs.Format.{kindOf, portOf, clockOf, octetsOf, sizeOf, Form, nothing, part, bad, whole, form}
+use Rattle.session.specs.Text.{refusalLine, summaryLine, portLines}
+
+-- ---- Records
+
+-- a whole record
+pub record Entry : Type 0 where
+  pub kind : ℕ
+  pub port : ℕ
+  pub at : ℕ
+  pub octets : List ℕ
+
+abbrev pub entry : ℕ → ℕ → ℕ → List ℕ → Entry
+entry kind port at octets = record { kind = kind; port = port; at = at; octets = octets }
+
+abbrev pub entryOf : List ℕ → Entry
+entryOf s = entry (kindOf s) (portOf s) (clockOf s) (octetsOf s)
+
+abbrev pub isWhole : Form → Bool
+isWhole nothing = false
+isWhole part = false
+isWhole bad = false
+isWhole whole = true
+
+-- the whole records that s begins with, at most n
+abbrev pub recordsOf : ℕ → List ℕ → List Entry
+recordsOf zero s = []
+recordsOf (suc n) s = cond (isWhole (form s)) (entryOf s ∷ recordsOf n (drop (sizeOf s) s)) []
+
+-- what stands behind them
+abbrev pub restOf : ℕ → List ℕ → List ℕ
+restOf zero s = s
+restOf (suc n) s = cond (isWhole (form s)) (restOf n (drop (sizeOf s) s)) s
+
+-- ---- Calls
+
+-- "Outgoing values are zeros", and so are the safe values lent: as many as an SPDU of that length has process octets. So 7 never arises.
+abbrev pub zeros : Params → ℕ → List ℕ
+zeros p n = replicate (processOctets (p .«FSP_ProtMode») n) 0
+
+abbrev pub safeIn : Params → List ℕ
+safeIn p = zeros p (p .SPDUInLength)
+
+abbrev pub safeOut : Params → List ℕ
+safeOut p = zeros p (p .SPDUOutLength)
+
+-- "bit 0 setSD_C, bit 1 ChFAck_C"
+abbrev pub setSDIn : List ℕ → Bool
+setSDIn octets = eqb (getD octets 0 0 % 2) 1
+
+abbrev pub ackIn : List ℕ → Bool
+ackIn octets = eqb (getD octets 0 0 / 2 % 2) 1
+
+-- the call that a record makes; p are the parameters of the port addressed
+abbrev pub callBy : Params → Entry → Call
+callBy p e =
+    cond (eqb (e .kind) 1) (SetParameters (e .port) (e .at) (e .octets))
+    (cond (eqb (e .kind) 2) (ReceiveResponse (e .port) (e .at) (e .octets) (safeIn p))
+    (cond (eqb (e .kind) 3) (Clock (e .port) (e .at) (safeIn p) (safeOut p))
+    (Operator (e .port) (e .at) (setSDIn (e .octets)) (ackIn (e .octets)) (safeIn p))))
+
+abbrev pub callOf : Bench → Entry → Call
+callOf b e = callBy (portAt b (e .port) .params) e
+
+-- the calls of some records behind earlier ones, the latest first
+abbrev pub callsOf : List Call → List Entry → List Call
+callsOf past [] = past
+callsOf past (e ∷ rs) = callsOf (callOf (history past) e ∷ past) rs
+
+-- ---- A run
+
+-- "A, B and N stop at 2^64 - 1" (R29)
+abbrev pub more : ℕ → ℕ
+more n = min (n + 1) (2 ^ 64 - 1)
+
+abbrev pub start : State
+start = record { bench = newBench; records = 0; refused = 0 }
+
+abbrev pub refusedAfter : ℕ → Answer → ℕ
+refusedAfter refused a = cond (isTaken a) refused (more refused)
+
+-- the bench, A and B after a record that was answered so
+abbrev pub answered : State → Bench → Answer → State
+answered st b a = record { bench = b; records = more (st .records); refused = refusedAfter (st .refused) a }
+
+unfoldable pub applied : State → Entry → State
+applied st e = answered st (after (st .bench) (callOf (st .bench) e)) (answerOf (st .bench) (callOf (st .bench) e))
+
+-- "It prints `r N code C` for a refusal at record N, counted from 1, as met."
+abbrev pub lineFor : ℕ → Answer → List ℕ
+lineFor n a = cond (isTaken a) [] (refusalLine n (numberOf a))
+
+unfoldable pub lineOf : State → Entry → List ℕ
+lineOf st e = lineFor (more (st .records)) (answerOf (st .bench) (callOf (st .bench) e))
+
+abbrev pub ran : State → List Entry → State
+ran st [] = st
+ran st (e ∷ rs) = ran (applied st e) rs
+
+abbrev pub told : State → List Entry → List ℕ
+told st [] = []
+told st (e ∷ rs) = lineOf st e ++ told (applied st e) rs
+
+-- "A 13 ends reading": its line, where some octets are left
+abbrev pub thirteenLine : Bool → ℕ → List ℕ
+thirteenLine some records = cond some (refusalLine (more records) (numberOf answers.Record)) []
+
+-- at the end: the line of a 13, then "records A refused B", then the port lines
+unfoldable pub closing : State → Bool → List ℕ
+closing st some =
+    thirteenLine some (st .records)
+    ++ summaryLine (st .records) (cond some (more (st .refused)) (st .refused))
+    ++ portLines (st .bench) 8
+
+-- All that a session prints. A record has 9 octets at least, so that there are fewer records than octets.
+unfoldable pub printed : List ℕ → List ℕ
+printed s =
+    let rs = recordsOf (length s) s in
+    told start rs ++ closing (ran start rs) (not (eqb (length (restOf (length s) s)) 0))
+
+-- ---- In blocks
+
+-- the room that is kept for a line, and for what is printed at the end
+abbrev pub lineRoom : ℕ
+lineRoom = 64
+
+abbrev pub closingRoom : ℕ
+closingRoom = 1152
+
+-- why reading stopped, by what stands there: a whole record, for whose line there is no room; a bad one; one cut short; nothing
+abbrev pub stopOf : Form → Stop
+stopOf whole = Full
+stopOf bad = Bad
+stopOf part = Cut
+stopOf nothing = End
+
+-- a block s, with a buffer of `room` octets lent for the lines: as many records as it has lines' room for
+unfoldable pub fedOf : State → List ℕ → ℕ → Fed
+fedOf st s room =
+    let n = room / lineRoom in
+    record {
+      state = ran st (recordsOf n s);
+      used = length s - length (restOf n s);
+      written = length (told st (recordsOf n s));
+      stop = stopOf (form (restOf n s));
+    }
+
+-- a buffer with a text at its front
+abbrev pub fronted : List ℕ → List ℕ → List ℕ
+fronted text out = text ++ drop (length text) out
+
+unfoldable pub fedText : State → List ℕ → List ℕ → List ℕ
+fedText st s out = fronted (told st (recordsOf (length out / lineRoom) s)) out
+
+-- what `finish` writes into a buffer of `room` octets
+unfoldable pub finishText : State → Bool → ℕ → List ℕ
+finishText st some room = cond (ltb room closingRoom) [] (closing st some)
+
+-- ---- At the port addressed
+
+-- the zeros that are lent in parts
+abbrev pub lentZeros : List ℕ
+lentZeros = replicate 255 0
+
+abbrev pub responseDone : (ℕ → List ℕ → ℕ) → Port → ℕ → ℕ → List ℕ → PortAfter
+responseDone sign p port at octets = calls.responseAt port p at (responseBy sign (p .params) octets) (safeIn (p .params))
+
+abbrev pub clockDone : Port → ℕ → ℕ → PortAfter
+clockDone p port at = calls.clockAt port p at (safeIn (p .params)) (safeOut (p .params))
+
+abbrev pub operatorDone : Port → ℕ → ℕ → List ℕ → PortAfter
+operatorDone p port at octets = calls.operatorAt port p at (setSDIn octets) (ackIn octets) (safeIn (p .params))
+
+-- what a record does there, by a method of signing
+abbrev pub doneBy : (ℕ → List ℕ → ℕ) → Port → Entry → PortAfter
+doneBy sign p e =
+    cond (eqb (e .kind) 1) (calls.parametersAt (e .port) p (e .at) (e .octets))
+    (cond (eqb (e .kind) 2) (responseDone sign p (e .port) (e .at) (e .octets))
+    (cond (eqb (e .kind) 3) (clockDone p (e .port) (e .at))
+    (operatorDone p (e .port) (e .at) (e .octets))))
+
+-- a number that no port has addresses a port that never ran, and leaves the one that stands in its place
+abbrev pub addressed : Port → ℕ → Port
+addressed p port = cond (outside 1 8 port) newPort p
+
+abbrev pub turnedBy : Port → ℕ → PortAfter → Turned
+turnedBy p port r =
+    record { port = cond (isTaken (r .reply .answer) && not (outside 1 8 port)) (r .port) p; answer = r .reply .answer }
+
+abbrev pub turnBy : (ℕ → List ℕ → ℕ) → Port → Entry → Turned
+turnBy sign p e = turnedBy p (e .port) (doneBy sign (addressed p (e .port)) e)
+
+-- where a port of that number stands; of a number that no port has, the first place
+abbrev pub placeOf : ℕ → ℕ
+placeOf port = cond (outside 1 8 port) 0 (port - 1)
