@@ -6,5 +6,6 @@ pub mod bench;
 pub mod block;
 pub mod histogram;
 pub mod machines;
+pub mod session;
 pub mod signature;
 pub mod spdu;
