@@ -402,6 +402,16 @@ impl BenchModel {
         self.addressed(port).ok().map(|running| running.length(place))
     }
 
+    /// The times of the port's samples since its last block.
+    pub fn samples(&self, port: u8) -> &[u16] {
+        self.addressed(port).map_or(&[], |running| &running.samples.list)
+    }
+
+    /// The count that the port's FS-Master sends; 0 where it does not run.
+    pub fn m_count(&self, port: u8) -> u8 {
+        self.addressed(port).map_or(0, |running| running.master.m_count)
+    }
+
     /// A port whose parameters are taken from it.
     pub fn stop(&mut self, port: u8) {
         self.ports[usize::from(port) - 1] = None;

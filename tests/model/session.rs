@@ -1,7 +1,7 @@
 // The session program of document 01 over the model of the bench: from a session's octets to the text that `portbench` prints.
 // The records are cut out of the whole session first, and called one after the other then.
 
-use super::bench::BenchModel;
+use super::bench::{BenchModel, Reply};
 use super::spdu::Direction;
 
 pub const MARK: [u8; 2] = [0x53, 0x4C];
@@ -69,13 +69,13 @@ fn well_formed(record: &Record) -> bool {
     }
 }
 
-/// The call that a record makes, and its answer's number. Safe values are zeros of the length that the port takes, so that 7 is
+/// The call that a record makes. Safe values are zeros of the length that the port takes, so that 7 is
 /// never the answer; at a port that does not run 8 or 9 is, whatever is lent.
-pub fn call(bench: &mut BenchModel, record: &Record) -> u8 {
+pub fn call(bench: &mut BenchModel, record: &Record) -> Reply {
     let Record { port, at, ref octets, .. } = *record;
     let safe_in = safe_values(bench, port, Direction::Response);
     let safe_out = safe_values(bench, port, Direction::Request);
-    let reply = match record.kind {
+    match record.kind {
         PARAMETERS => bench.set_parameters(port, at, octets),
         SPDU => bench.receive_response(port, at, octets, &safe_in),
         CLOCK => bench.clock(port, at, &safe_in, &safe_out),
@@ -83,8 +83,7 @@ pub fn call(bench: &mut BenchModel, record: &Record) -> u8 {
             let signals = [octets[0] & 1 != 0, octets[0] & 2 != 0];
             bench.operator(port, at, signals, &safe_in)
         }
-    };
-    reply.number
+    }
 }
 
 pub fn safe_values(bench: &BenchModel, port: u8, direction: Direction) -> Vec<u8> {
@@ -98,7 +97,8 @@ pub fn safe_values(bench: &BenchModel, port: u8, direction: Direction) -> Vec<u8
 pub fn printed(session: &[u8]) -> String {
     let Parts { records, rest } = parts(session);
     let mut bench = BenchModel::new();
-    let mut numbers: Vec<u8> = records.iter().map(|record| call(&mut bench, record)).collect();
+    let mut numbers: Vec<u8> =
+        records.iter().map(|record| call(&mut bench, record).number).collect();
     if !rest.is_empty() {
         numbers.push(RECORD);
     }
