@@ -1,0 +1,251 @@
+// Random sessions (document 01, "The session program"), and ways to damage one.
+#![allow(dead_code)]
+
+use crate::good_blocks::{good, Block, KINDS, VIOLATIONS};
+use crate::lines::ends::Ends;
+use crate::model::block::{put, sign, LENGTH};
+use crate::model::session::{first_record, HEAD, MARK};
+use crate::model::spdu::{Direction, Format, Values};
+use crate::random::Random;
+
+/// A session of so many records, most of them taken, at a few ports. Counts follow those of the model.
+pub fn session(random: &mut Random, records: usize) -> Vec<u8> {
+    let ports = [1 + random.below(8) as u8, 1 + random.below(8) as u8];
+    let mut writer = Writer { random, ports, ends: Ends::new(), octets: Vec::new() };
+    for _ in 0..records {
+        writer.any_record();
+    }
+    writer.octets
+}
+
+struct Writer<'a> {
+    random: &'a mut Random,
+    /// The ports that most records are for.
+    ports: [u8; 2],
+    ends: Ends,
+    octets: Vec<u8>,
+}
+
+impl Writer<'_> {
+    fn record(&mut self, kind: u8, port: u8, at: u32, octets: &[u8]) {
+        let start = self.octets.len();
+        self.octets.extend(record(kind, port, at, octets));
+        self.ends.take_all(&self.octets[start..]);
+    }
+
+    fn any_record(&mut self) {
+        let port = match self.random.below(60) {
+            0 => self.random.octet(),
+            1..=4 => 1 + self.random.below(8) as u8,
+            _ => self.ports[self.random.below(2)],
+        };
+        let at = self.reading(port);
+        let running = self.format(port).is_some();
+        match self.random.below(40) {
+            0 => self.block(port, at),
+            _ if !running && self.random.flag() => self.block(port, at),
+            1..=2 => self.bad_block(port, at),
+            3..=4 => self.record(3, port, at, &[]),
+            5..=9 => {
+                let signals = self.random.below(4) as u8;
+                self.record(4, port, at, &[signals]);
+            }
+            _ => self.response(port, at),
+        }
+    }
+
+    fn format(&self, port: u8) -> Option<Format> {
+        self.ends.bench().format(port, Direction::Response)
+    }
+
+    /// After the port's last reading, mostly within its watchdog time; at times just past it, back, or anywhere.
+    fn reading(&mut self, port: u8) -> u32 {
+        let w = self.ends.bench().shown(port).parameters[13];
+        let step = match self.random.below(60) {
+            0 => w,
+            1 => w + 1,
+            2 => 0u32.wrapping_sub(1 + self.random.below(5) as u32),
+            3 => self.random.number() as u32,
+            _ => self.random.below(1 + w as usize / 2) as u32,
+        };
+        self.ends.reading(port).wrapping_add(step)
+    }
+
+    fn block(&mut self, port: u8, at: u32) {
+        let block = self.good_block(port);
+        self.record(1, port, at, &block);
+    }
+
+    fn good_block(&mut self, port: u8) -> Block {
+        let kind = KINDS[self.random.below(KINDS.len())];
+        let mut block = good(self.random, kind);
+        let w = [1, 20, 100, 65535, 1 + self.random.below(65535) as u32][self.random.below(5)];
+        put(&mut block, 27, 2, w);
+        block[22] = port.max(1);
+        sign(&mut block);
+        block
+    }
+
+    /// Of another size, with one rule broken, with another port's number, or one bit damaged.
+    fn bad_block(&mut self, port: u8, at: u32) {
+        let mut block = self.good_block(port);
+        let mut size = LENGTH;
+        match self.random.below(4) {
+            0 => size = [0, 1, LENGTH - 1, LENGTH + 1, 255][self.random.below(5)],
+            1 => {
+                let (_, _, violate) = VIOLATIONS[self.random.below(VIOLATIONS.len())];
+                violate(self.random, &mut block);
+                sign(&mut block);
+            }
+            2 => {
+                block[22] = 1 + (port % 8);
+                sign(&mut block);
+            }
+            _ => block[self.random.below(LENGTH)] ^= 1 << self.random.below(8),
+        }
+        let mut octets = block.to_vec();
+        octets.resize(size, 0);
+        self.record(1, port, at, &octets);
+    }
+
+    /// Mostly the FS-Device's answer; else the last one again, one bit damaged, zeros, another length, any octets, or one that
+    /// the FS-Device did not build.
+    fn response(&mut self, port: u8, at: u32) {
+        let length = self.format(port).map_or(7, |format| format.length).into();
+        let spdu = match self.random.below(60) {
+            0 => self.ends.last_spdu(port).to_vec(),
+            1..=3 => {
+                let mut spdu = self.answer(port, at);
+                flip(self.random, &mut spdu);
+                spdu
+            }
+            4 => vec![0; length],
+            5 => {
+                let size = self.random.below(40);
+                self.random.octets(size)
+            }
+            6 => self.random.octets(length),
+            7..=9 => self.forged(port, at),
+            _ => self.answer(port, at),
+        };
+        self.record(2, port, at, &spdu);
+    }
+
+    fn answer(&mut self, port: u8, at: u32) -> Vec<u8> {
+        let process = self
+            .format(port)
+            .map_or(0, |format| usize::from(format.length) - format.safety_octets());
+        let process = self.random.octets(process);
+        self.ends.response(port, at, Some(process)).unwrap_or_default()
+    }
+
+    /// Signed, with any count, marks and port number.
+    fn forged(&mut self, port: u8, at: u32) -> Vec<u8> {
+        let spdu = self.answer(port, at);
+        let format = match self.format(port) {
+            Some(format) => format,
+            None => return spdu,
+        };
+        let count = if self.random.flag() {
+            7 - self.ends.bench().m_count(port)
+        } else {
+            self.random.below(8) as u8
+        };
+        let marks = [0; 3].map(|_| self.random.below(3) == 0);
+        let named = if self.random.below(4) == 0 { self.random.octet() } else { port };
+        let values = Values { responded: true, count, marks };
+        let process = &spdu[..spdu.len() - format.safety_octets()];
+        Format { port: named, ..format }.build(&values, process, &spdu).1
+    }
+}
+
+pub fn record(kind: u8, port: u8, at: u32, octets: &[u8]) -> Vec<u8> {
+    let head = [&MARK[..], &[kind, port], &at.to_be_bytes(), &[octets.len() as u8]].concat();
+    [&head, octets].concat()
+}
+
+fn flip(random: &mut Random, octets: &mut [u8]) {
+    if !octets.is_empty() {
+        octets[random.below(octets.len())] ^= 1 << random.below(8);
+    }
+}
+
+/// One change: of a bit, an octet or a record's head; octets put in or taken out; records left out, repeated or exchanged; an end
+/// that is missing or does not belong there.
+pub fn damage(random: &mut Random, session: &mut Vec<u8>) {
+    match random.below(10) {
+        0 => flip(random, session),
+        1 => replace_octet(random, session),
+        2 => change_head(random, session),
+        3 => {
+            let place = random.below(session.len() + 1);
+            let count = 1 + random.below(12);
+            let octets = random.octets(count);
+            session.splice(place..place, octets);
+        }
+        4 => {
+            let place = random.below(session.len() + 1);
+            let end = session.len().min(place + 1 + random.below(12));
+            session.drain(place..end);
+        }
+        5..=7 => change_records(random, session),
+        8 => session.truncate(random.below(session.len() + 1)),
+        _ => {
+            let size = random.below(20);
+            let octets = random.octets(size);
+            let kind = random.below(7) as u8;
+            let (port, at) = (random.octet(), random.number() as u32);
+            session.extend(record(kind, port, at, &octets));
+        }
+    }
+}
+
+fn replace_octet(random: &mut Random, session: &mut [u8]) {
+    if !session.is_empty() {
+        session[random.below(session.len())] =
+            [0, 1, 0x53, 0x4C, 255, random.octet()][random.below(6)];
+    }
+}
+
+/// Where each whole record begins, and where the last one ends.
+fn starts(session: &[u8]) -> Vec<usize> {
+    let mut starts = vec![0];
+    while let Some(record) = first_record(&session[starts[starts.len() - 1]..]) {
+        starts.push(starts[starts.len() - 1] + record.size());
+    }
+    starts
+}
+
+fn change_head(random: &mut Random, session: &mut [u8]) {
+    let starts = starts(session);
+    let start = starts[random.below(starts.len())];
+    let place = start + random.below(HEAD);
+    if place < session.len() {
+        session[place] = [0, 1, 2, 3, 4, 5, 9, random.octet()][random.below(8)];
+    }
+}
+
+fn change_records(random: &mut Random, session: &mut Vec<u8>) {
+    let starts = starts(session);
+    let records = starts.len() - 1;
+    if records == 0 {
+        return;
+    }
+    let [a, b] = [random.below(records), random.below(records)];
+    let octets = |place: usize| session[starts[place]..starts[place + 1]].to_vec();
+    let (first, second) = (octets(a.min(b)), octets(a.max(b)));
+    let (low, high) = (starts[a.min(b)], starts[a.max(b)]);
+    match random.below(3) {
+        0 => {
+            session.drain(high..high + second.len());
+        }
+        1 => {
+            session.splice(high..high, first);
+        }
+        _ if low != high => {
+            session.splice(high..high + second.len(), first.clone());
+            session.splice(low..low + first.len(), second);
+        }
+        _ => (),
+    }
+}
