@@ -14,6 +14,10 @@ impl Random {
             None => 1,
         };
         println!("{program}: seed {seed}");
+        Random::from_seed(seed)
+    }
+
+    pub fn from_seed(seed: u64) -> Random {
         Random { state: seed }
     }
 

@@ -86,11 +86,11 @@ impl Writer<'_> {
         block
     }
 
-    /// Of another size, with one rule broken, with another port's number, or one bit damaged.
+    /// Of another size, with one rule broken, with another port's number or port mode, or one bit damaged.
     fn bad_block(&mut self, port: u8, at: u32) {
         let mut block = self.good_block(port);
         let mut size = LENGTH;
-        match self.random.below(4) {
+        match self.random.below(5) {
             0 => size = [0, 1, LENGTH - 1, LENGTH + 1, 255][self.random.below(5)],
             1 => {
                 let (_, _, violate) = VIOLATIONS[self.random.below(VIOLATIONS.len())];
@@ -101,6 +101,7 @@ impl Writer<'_> {
                 block[22] = 1 + (port % 8);
                 sign(&mut block);
             }
+            3 => block[2] = [0, 4, 5, 48, 51, 52, 97, 255][self.random.below(8)],
             _ => block[self.random.below(LENGTH)] ^= 1 << self.random.below(8),
         }
         let mut octets = block.to_vec();

@@ -17,11 +17,11 @@ use model::session::printed;
 use random::Random;
 use random_sessions::{damage, record, session};
 
-const SESSIONS: usize = 250;
-const LONG: usize = 60;
+const SESSIONS: usize = 120;
+const LONG: usize = 30;
 /// Sessions that are cut at every octet, and their records.
-const CUT: usize = 8;
-const SHORT: usize = 12;
+const CUT: usize = 4;
+const SHORT: usize = 10;
 const DAMAGES: usize = 4;
 
 fn main() {
