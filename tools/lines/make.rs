@@ -21,7 +21,7 @@ use super::ends::Ends;
 use super::fields;
 use super::words::Words;
 use crate::model::session::{CLOCK, MARK, OPERATOR, PARAMETERS, SPDU};
-use crate::model::spdu::{Direction, Values};
+use crate::model::spdu::{Direction, Format, Values};
 
 /// The octets of the session; or what is wrong, with the number of the line.
 pub fn make(text: &str) -> Result<Vec<u8>, String> {
@@ -99,8 +99,7 @@ impl Maker {
     }
 
     fn record(&mut self, kind: u8, port: u8, at: u32, octets: &[u8]) -> Result<(), String> {
-        let length = u8::try_from(octets.len()).map_err(|_| "more than 255 octets".to_string())?;
-        self.write(&MARK, kind, port, at, length, octets);
+        self.write(&MARK, kind, port, at, length_octet(octets)?, octets);
         Ok(())
     }
 
@@ -136,32 +135,15 @@ impl Maker {
 
     /// Also one that is malformed.
     fn any_record(&mut self, words: &mut Words) -> Result<(), String> {
-        let mut mark = MARK.to_vec();
-        let mut word = words.need("`kind`")?;
-        if word == "mark" {
-            mark = words.octets("the mark")?;
-            word = words.need("`kind`")?;
-        }
-        if word != "kind" {
-            return Err(format!("`kind` is expected, not `{word}`"));
-        }
+        let mark = if words.found("mark") { words.octets("the mark")? } else { MARK.to_vec() };
+        words.expect("kind")?;
         let kind = words.octet("the kind")?;
         let (port, at) = self.place(words)?;
-        let mut word = words.need("`octets`")?;
-        let mut length = None;
-        if word == "length" {
-            length = Some(words.octet("the length")?);
-            word = words.need("`octets`")?;
-        }
-        if word != "octets" {
-            return Err(format!("`octets` is expected, not `{word}`"));
-        }
+        let given = if words.found("length") { Some(words.octet("the length")?) } else { None };
+        words.expect("octets")?;
         let octets = words.octets("octets")?;
-        match length {
-            Some(length) => self.write(&mark, kind, port, at, length, &octets),
-            None if octets.len() > 255 => return Err("more than 255 octets".to_string()),
-            None => self.write(&mark, kind, port, at, octets.len() as u8, &octets),
-        }
+        let length = given.map_or_else(|| length_octet(&octets), Ok)?;
+        self.write(&mark, kind, port, at, length, &octets);
         Ok(())
     }
 
@@ -232,19 +214,7 @@ impl Maker {
             .ends
             .response(port, at, wish.process.clone())
             .ok_or_else(|| "the process octets are not as many as the block says".to_string())?;
-        if !wish.signs_anew() {
-            return Ok(spdu);
-        }
-        let fields = format.read(&spdu);
-        let [sd_set, comm_err, timeout] = fields.marks;
-        let values = Values {
-            responded: true,
-            count: wish.count.unwrap_or(fields.count),
-            marks: [sd_set || wish.marks[0], comm_err || wish.marks[1], timeout || wish.marks[2]],
-        };
-        let named = crate::model::spdu::Format { port: wish.port.unwrap_or(port), ..format };
-        let process = &spdu[..spdu.len() - format.safety_octets()];
-        Ok(named.build(&values, process, &spdu).1)
+        Ok(if wish.signs_anew() { wish.signed_anew(&format, &spdu) } else { spdu })
     }
 }
 
@@ -281,6 +251,18 @@ impl Wish {
     fn signs_anew(&self) -> bool {
         self.count.is_some() || self.port.is_some() || self.marks.contains(&true)
     }
+
+    fn signed_anew(&self, format: &Format, spdu: &[u8]) -> Vec<u8> {
+        let fields = format.read(spdu);
+        let values = Values {
+            responded: true,
+            count: self.count.unwrap_or(fields.count),
+            marks: [0, 1, 2].map(|mark| fields.marks[mark] || self.marks[mark]),
+        };
+        let named = Format { port: self.port.unwrap_or(format.port), ..*format };
+        let process = &spdu[..spdu.len() - format.safety_octets()];
+        named.build(&values, process, spdu).1
+    }
 }
 
 enum Change {
@@ -303,13 +285,14 @@ impl Change {
 
 /// `octets HEX` in place of all fields.
 fn raw(words: &mut Words) -> Result<Option<Vec<u8>>, String> {
-    match words.peek() {
-        Some("octets") => {
-            words.next();
-            words.octets("octets").map(Some)
-        }
-        _ => Ok(None),
+    if words.found("octets") {
+        return words.octets("octets").map(Some);
     }
+    Ok(None)
+}
+
+fn length_octet(octets: &[u8]) -> Result<u8, String> {
+    u8::try_from(octets.len()).map_err(|_| "a record has at most 255 octets".to_string())
 }
 
 fn count(words: &mut Words) -> Result<u8, String> {

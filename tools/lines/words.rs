@@ -16,8 +16,9 @@ impl<'a> Words<'a> {
         self.words.next()
     }
 
-    pub fn peek(&mut self) -> Option<&'a str> {
-        self.words.peek().copied()
+    /// Whether the next word is this one, which is then read.
+    pub fn found(&mut self, word: &str) -> bool {
+        self.words.next_if_eq(&word).is_some()
     }
 
     /// The word that a line can't go without.
