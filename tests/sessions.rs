@@ -1,5 +1,5 @@
 // Sessions as octets and as lines of text: every session, also one that is torn or malformed, comes back from the lines that show it.
-// What the model prints is held to the examples in document 01, and to the codes among the lines.
+// What the model prints is held to document 01's examples, to those in examples/, and to the codes among the lines.
 // Argument: the seed of the random inputs, or none.
 
 mod comparisons;
@@ -16,6 +16,7 @@ use lines::show::show;
 use model::session::printed;
 use random::Random;
 use random_sessions::{damage, record, session};
+use std::path::PathBuf;
 
 const SESSIONS: usize = 120;
 const LONG: usize = 30;
@@ -28,6 +29,7 @@ fn main() {
     let mut random = Random::from_arguments("sessions");
     let mut comparisons = Comparisons::new("sessions");
     examples_of_01(&mut comparisons);
+    examples(&mut comparisons);
     let mut codes = [0; 14];
     for _ in 0..SESSIONS {
         let mut session = session(&mut random, LONG);
@@ -57,6 +59,24 @@ fn examples_of_01(comparisons: &mut Comparisons) {
     for (session, text) in examples {
         let inputs = || octets_text(&session);
         comparisons.compare(text, printed(&session).as_str(), inputs);
+        compare(comparisons, &session);
+    }
+}
+
+/// Lines, the session made from them, and what is printed.
+fn examples(comparisons: &mut Comparisons) {
+    let files = std::fs::read_dir("examples").expect("the directory of examples");
+    let mut lines: Vec<PathBuf> = files.map(|file| file.expect("a file").path()).collect();
+    lines.retain(|path| path.extension().map_or(false, |extension| extension == "txt"));
+    lines.sort();
+    comparisons.compare(false, lines.is_empty(), || "no examples".to_string());
+    for path in lines {
+        let read = |extension| std::fs::read(path.with_extension(extension)).expect("an example");
+        let name = || path.display().to_string();
+        let text = String::from_utf8(read("txt")).expect("lines of text");
+        let session = read("session");
+        comparisons.compare(Ok(&session), make(&text).as_ref(), name);
+        comparisons.compare(read("out"), printed(&session).into_bytes(), name);
         compare(comparisons, &session);
     }
 }

@@ -38,7 +38,7 @@ pub fn show(session: &[u8]) -> String {
         let [first, more] = lines(&ends, record);
         let fault = Fault::of(&ends, record);
         let told = ends.take(record);
-        text += &format!("{first}  # {}\n{more}", comment(record, &told, &fault));
+        text += &format!("{first}  # {}{more}\n", comment(record, &told, &fault));
     }
     text + &rest_lines(rest)
 }
@@ -79,15 +79,10 @@ fn elements(block: &[u8]) -> String {
             name if name == "ArgBlockID" || element.covers.is_some() => format!("0x{number:04X}"),
             _ => number.to_string(),
         };
-        let begins = LINES.contains(&element.offset);
-        let gap = match (begins, element.offset) {
-            (true, 0) => "    ",
-            (true, _) => "\n    ",
-            (false, _) => " ",
-        };
+        let gap = if LINES.contains(&element.offset) { "\n    " } else { " " };
         text += &format!("{gap}{} {value}", element.name);
     }
-    text + "\n"
+    text
 }
 
 /// The parts of an SPDU of the right length, as they stand.
