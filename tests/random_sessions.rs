@@ -127,9 +127,25 @@ impl Writer<'_> {
             }
             6 => self.random.octets(length),
             7..=9 => self.forged(port, at),
+            10..=11 => self.zero_computed(port, at),
             _ => self.answer(port, at),
         };
         self.record(2, port, at, &spdu);
+    }
+
+    /// The answer with such process octets that the computed signature is 0, which is sent as 1; as 0 every other time.
+    fn zero_computed(&mut self, port: u8, at: u32) -> Vec<u8> {
+        let mut spdu = self.answer(port, at);
+        let solved = self.format(port).and_then(|format| {
+            let mut contents = format.contents(&spdu).to_vec();
+            make_zero(&format, &mut contents).then(|| format.signed(&contents))
+        });
+        if let Some(signed) = solved {
+            spdu = signed;
+            let last = spdu.len() - 1;
+            spdu[last] ^= u8::from(self.random.flag());
+        }
+        spdu
     }
 
     fn answer(&mut self, port: u8, at: u32) -> Vec<u8> {
@@ -160,6 +176,50 @@ impl Writer<'_> {
     }
 }
 
+/// Changes the first process octets, as many as the signature has, so that it is computed as 0. It is a sum of what each bit adds to it,
+/// so that the bits to flip are found one by one, each clearing its highest power. Whether there are so many process octets.
+fn make_zero(format: &Format, contents: &mut [u8]) -> bool {
+    let width = format.generator().width;
+    if contents.len() < width / 8 + 2 {
+        return false;
+    }
+    let start = format.computed(contents);
+    // For each highest power: the bits to flip, and what they add.
+    let mut steps: [Option<(u32, u32)>; 32] = [None; 32];
+    for bit in 0..width {
+        contents[bit / 8] ^= 0x80 >> bit % 8;
+        let added = format.computed(contents) ^ start;
+        contents[bit / 8] ^= 0x80 >> bit % 8;
+        let (flips, rest) = reduced(&steps, 1 << bit, added);
+        if rest != 0 {
+            steps[highest(rest)] = Some((flips, rest));
+        }
+    }
+    let (flips, rest) = reduced(&steps, 0, start);
+    for bit in (0..width).filter(|bit| flips >> bit & 1 == 1) {
+        contents[bit / 8] ^= 0x80 >> bit % 8;
+    }
+    rest == 0
+}
+
+/// Adds steps until there is none for the highest power of what is left.
+fn reduced(steps: &[Option<(u32, u32)>; 32], mut flips: u32, mut rest: u32) -> (u32, u32) {
+    while rest != 0 {
+        match steps[highest(rest)] {
+            Some((more, added)) => {
+                flips ^= more;
+                rest ^= added;
+            }
+            None => break,
+        }
+    }
+    (flips, rest)
+}
+
+fn highest(number: u32) -> usize {
+    31 - number.leading_zeros() as usize
+}
+
 pub fn record(kind: u8, port: u8, at: u32, octets: &[u8]) -> Vec<u8> {
     let head = [&MARK[..], &[kind, port], &at.to_be_bytes(), &[octets.len() as u8]].concat();
     [&head, octets].concat()
@@ -174,7 +234,7 @@ fn flip(random: &mut Random, octets: &mut [u8]) {
 /// One change: of a bit, an octet or a record's head; octets put in or taken out; records left out, repeated or exchanged; an end
 /// that is missing or does not belong there.
 pub fn damage(random: &mut Random, session: &mut Vec<u8>) {
-    match random.below(10) {
+    match random.below(11) {
         0 => flip(random, session),
         1 => replace_octet(random, session),
         2 => change_head(random, session),
@@ -191,6 +251,12 @@ pub fn damage(random: &mut Random, session: &mut Vec<u8>) {
         }
         5..=7 => change_records(random, session),
         8 => session.truncate(random.below(session.len() + 1)),
+        9 => {
+            // One bit of an operator octet, or two.
+            let octet = 1 << random.below(8) | 1 << random.below(8);
+            let place = some_start(random, session);
+            session.splice(place..place, record(4, 1 + random.below(8) as u8, 0, &[octet]));
+        }
         _ => {
             let size = random.below(20);
             let octets = random.octets(size);
@@ -217,10 +283,13 @@ fn starts(session: &[u8]) -> Vec<usize> {
     starts
 }
 
-fn change_head(random: &mut Random, session: &mut [u8]) {
+fn some_start(random: &mut Random, session: &[u8]) -> usize {
     let starts = starts(session);
-    let start = starts[random.below(starts.len())];
-    let place = start + random.below(HEAD);
+    starts[random.below(starts.len())]
+}
+
+fn change_head(random: &mut Random, session: &mut [u8]) {
+    let place = some_start(random, session) + random.below(HEAD);
     if place < session.len() {
         session[place] = [0, 1, 2, 3, 4, 5, 9, random.octet()][random.below(8)];
     }
