@@ -80,7 +80,7 @@ struct Draft {
     signatures: [Signature; ELEMENTS.len()],
     /// The octets are cut or filled up with zeros to this size.
     size: usize,
-    /// Offsets of SPDU lengths that the line gave, which are not counted.
+    /// The offsets that the line gave a number for.
     given: Vec<usize>,
 }
 
@@ -125,8 +125,8 @@ impl Draft {
         match word {
             "mode" => self.element("FSP_ProtMode", words),
             "watchdog" => self.element("FSP_WatchdogTime", words),
-            "in" => self.process(40, words),
-            "out" => self.process(45, words),
+            "in" => self.element("TotalOfInOctets", words),
+            "out" => self.element("TotalOfOutOctets", words),
             "size" => {
                 self.size = words.octet("size")?.into();
                 Ok(())
@@ -158,20 +158,12 @@ impl Draft {
         Ok(())
     }
 
-    /// The process octets of one direction, each of eight bits.
-    fn process(&mut self, offset: usize, words: &mut Words) -> Result<(), String> {
-        let octets = words.octet("the number of process octets")?;
-        self.octets[offset] = octets;
-        self.octets[offset - 1] = octets.saturating_mul(8);
-        Ok(())
-    }
-
-    /// The lengths and signatures that the line left open belong to the other elements.
+    /// The lengths, bits and signatures that the line left open belong to the other elements.
     fn finish(mut self) -> Vec<u8> {
         for offset in [38, 43] {
-            if !self.given.contains(&offset) {
-                self.octets[offset] = self.counted_length(offset);
-            }
+            let bits = self.octets[offset + 2].saturating_mul(8);
+            self.leave(offset, self.counted_length(offset));
+            self.leave(offset + 1, bits);
         }
         for (place, element) in ELEMENTS.iter().enumerate() {
             if let Some(right) = element.right(&self.octets) {
@@ -186,6 +178,13 @@ impl Draft {
         let mut octets = self.octets.to_vec();
         octets.resize(self.size, 0);
         octets
+    }
+
+    /// For an octet that the line left open.
+    fn leave(&mut self, offset: usize, octet: u8) {
+        if !self.given.contains(&offset) {
+            self.octets[offset] = octet;
+        }
     }
 
     fn counted_length(&self, offset: usize) -> u8 {
