@@ -3,6 +3,7 @@ ghost use mathlib.Core.Path.{_≡_};
 ghost use mathlib.Core.Bool.{cond};
 ghost use Prim.Native.Nat.{_+_, _≤_, _<_};
 ghost use lib.ListN.{length, getD};
+ghost use Rattle.io.specs.Counts.{Counts};
 ghost use Rattle.spdu.specs.Signature.{byTables};
 ghost use Rattle.spdu.specs.Places.{processOctets};
 ghost use Rattle.session.specs.Run as runs;
@@ -216,6 +217,8 @@ fn bench_of(st: State) -> Bench
 pub fn feed(st: State, s: &[u8], out: &mut [u8]) -> Fed
     ensures { λ r. ⌜ r ≡ runs.fedOf st (now (s .entry)) (length (now (out .entry))) ⌝ }
     ensures { λ _. ⌜ now (out .exit) ≡ runs.fedText st (now (s .entry)) (now (out .entry)) ⌝ }
+    ensures { λ r. ⌜ r .used ≤ length (now (s .entry)) ⌝ }
+    ensures { λ r. ⌜ Counts (r .written) (now (out .exit)) ⌝ }
 {
     let short = signature::table16();
     let long = signature::table32();
@@ -320,6 +323,7 @@ fn refused_at_end(some: bool, refused: u64) -> u64
 fn close(st: State, some: bool, out: &mut [u8]) -> usize
     requires { ⌜ 1152 ≤ length (now out) ⌝ }
     ensures { λ r. ⌜ lines.Written (now (out .entry)) 0 (runs.closing st some) r (now (out .exit)) ⌝ }
+    ensures { λ r. ⌜ r ≤ 1152 ⌝ }
 {
     let a = thirteen(out, some, st.records);
     let refused = refused_at_end(some, st.refused);
@@ -332,6 +336,7 @@ fn close(st: State, some: bool, out: &mut [u8]) -> usize
 pub fn finish(st: State, some: bool, out: &mut [u8]) -> usize
     ensures { λ r. ⌜ r ≡ length (runs.finishText st some (length (now (out .entry)))) ⌝ }
     ensures { λ _. ⌜ now (out .exit) ≡ runs.fronted (runs.finishText st some (length (now (out .entry)))) (now (out .entry)) ⌝ }
+    ensures { λ r. ⌜ Counts r (now (out .exit)) ⌝ }
 {
     if out.len() < 1152 {
         return 0;

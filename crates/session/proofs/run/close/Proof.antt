@@ -1,3 +1,4 @@
+use native.Mathlib.Omega.{arith}
 use Rattle.session.proofs.Written.{then, none, from-front}
 use Rattle.session.specs.Run.{closing}
 use borrow.Author.Needs.{needs}
@@ -38,7 +39,7 @@ returns c =
     let p2 = p3 .before .before .before .before in
     let q = p2 .before .before in
     let p1 = q .before .before .before in
-    then (then (p1 .thirteen .ensures .0) (rw (q .refused-at-end .ensures) at (p2 .summary-line .ensures .0))) (p3 .port-lines .ensures .0)
+    (then (then (p1 .thirteen .ensures .0) (rw (q .refused-at-end .ensures) at (p2 .summary-line .ensures .0))) (p3 .port-lines .ensures .0), omega (arith, p3 .port-lines .ensures .1, p2 .summary-line .ensures .1, p1 .thirteen .ensures .1))
 
 pub close-spec : {M : Type 1} → statement M
 close-spec =

@@ -6,6 +6,7 @@ use mathlib.Core.Path.{_≡_, refl, sym, ap, _∙_}
 use mathlib.Core.Bool.{false}
 use mathlib.Core.List.{List, []}
 use lib.ListN.{length, drop, length-drop, length-set, length-map}
+use lib.Seq.{length-take-le}
 use denote.Ref.{now}
 use Rattle.bench.specs.declared.Bench.{Bench}
 use Rattle.bench.specs.Ports.{noPort}
@@ -87,7 +88,7 @@ returns c =
     let rest : restOf (l .left) x ≡ x = rw n in
     let b : l .w ≤ length (l .out) = omega arith in
     let st = begun (a .before .before .bench-of .ensures) in
-    (fed-is (l .inv .4) st refl none rest (l .inv .1) b (rw (f .stands)), text-out (l .inv .4) st refl none rest (l .inv .1) b)
+    (fed-is (l .inv .4) st refl none rest (l .inv .1) b (rw (f .stands)), (text-out (l .inv .4) st refl none rest (l .inv .1) b, (l .inv .1, (b, sym (length-take-le _ _ b)))))
 
 -- src/run.rt:237:21
 place-requires : tie.Need-place-requires Inv-loop μ-loop
@@ -221,7 +222,7 @@ returns-2 c =
     let rest = no-rest (l .left) x off in
     let b : l .w ≤ length (l .out) = omega arith in
     let st = begun (a .before .before .bench-of .ensures) in
-    (fed-is (l .inv .4) st refl none rest (l .inv .1) b (rw f), text-out (l .inv .4) st refl none rest (l .inv .1) b)
+    (fed-is (l .inv .4) st refl none rest (l .inv .1) b (rw f), (text-out (l .inv .4) st refl none rest (l .inv .1) b, (l .inv .1, (b, sym (length-take-le _ _ b)))))
 
 -- src/run.rt:264:25
 enum-told-2 : tie.Need-enum-told-2 Inv-loop μ-loop
@@ -245,7 +246,7 @@ returns-3 c =
     let rest = no-rest (l .left) x off in
     let b : l .w ≤ length (l .out) = omega arith in
     let st = begun (a .before .before .bench-of .ensures) in
-    (fed-is (l .inv .4) st refl none rest (l .inv .1) b (rw f), text-out (l .inv .4) st refl none rest (l .inv .1) b)
+    (fed-is (l .inv .4) st refl none rest (l .inv .1) b (rw f), (text-out (l .inv .4) st refl none rest (l .inv .1) b, (l .inv .1, (b, sym (length-take-le _ _ b)))))
 
 -- src/run.rt:276:25
 enum-told-3 : tie.Need-enum-told-3 Inv-loop μ-loop
@@ -269,7 +270,7 @@ returns-4 c =
     let rest = no-rest (l .left) x off in
     let b : l .w ≤ length (l .out) = omega arith in
     let st = begun (a .before .before .bench-of .ensures) in
-    (fed-is (l .inv .4) st refl none rest (l .inv .1) b (rw f), text-out (l .inv .4) st refl none rest (l .inv .1) b)
+    (fed-is (l .inv .4) st refl none rest (l .inv .1) b (rw f), (text-out (l .inv .4) st refl none rest (l .inv .1) b, (l .inv .1, (b, sym (length-take-le _ _ b)))))
 
 pub feed-spec : {M : Type 1} → statement M
 feed-spec =

@@ -1,3 +1,7 @@
+use Prim.Native.Nat.{_≤_}
+use mathlib.Core.Path.{refl, sym}
+use lib.ListN.{length}
+use lib.Seq.{length-take-le}
 use native.Mathlib.Omega.{arith}
 use borrow.Author.Tests.{lt-ltb, le-ltb, eq-eqb, ne-eqb}
 use Rattle.session.proofs.Written.{then, none, from-front}
@@ -13,7 +17,7 @@ use Rattle.session.proofs.run.close.Reads as close-reads
 returns : tie.Need-returns
 unfolding finishText
 returns c =
-    let e = lt-ltb _ _ (c .if1 .taken) in (rw e, rw e)
+    let e = lt-ltb _ _ (c .if1 .taken) in (rw e, (rw e, (omega arith, refl)))
 
 -- src/run.rt:320:5
 close-requires : tie.Need-close-requires
@@ -29,8 +33,9 @@ unfolding finishText
 returns-2 c =
     let l = c .before .before in
     let e = le-ltb _ _ (l .before .before .if1 .left) in
-    let w = l .close .ensures in
-    (rw e (omega (arith, w .end)), rw e (from-front w))
+    let w = l .close .ensures .0 in
+    let b : l .close .result ≤ length (l .close .last .1 .1 .0) = omega (arith, l .close .ensures .1, l .close .kept, l .before .before .if1 .left) in
+    (rw e (omega (arith, w .end)), (rw e (from-front w), (b, sym (length-take-le _ _ b))))
 
 pub finish-spec : {M : Type 1} → statement M
 finish-spec = tie.close (tie.spec returns close-requires same-length returns-2)
