@@ -11,7 +11,7 @@ mod random_sessions;
 
 use model::session::printed;
 use random::Random;
-use random_sessions::{damage, session};
+use random_sessions::{damage, long_session, session};
 use std::fs::File;
 use std::io::Write;
 use std::process::{exit, Child, Command, Stdio};
@@ -58,12 +58,18 @@ fn stop(wrong: &str) -> ! {
 
 /// Short ones mostly, since each is a run of the program. Every fourth is not damaged, and a few are any octets.
 fn damaged_session(random: &mut Random) -> Vec<u8> {
-    if random.below(40) == 0 {
-        let size = random.below(600);
-        return random.octets(size);
-    }
-    let records = if random.below(10) == 0 { 400 } else { random.below(40) };
-    let mut session = session(random, records);
+    let mut session = match random.below(120) {
+        0 => long_session(random),
+        1..=3 => {
+            let size = random.below(600);
+            random.octets(size)
+        }
+        4..=12 => session(random, 400),
+        _ => {
+            let records = random.below(40);
+            session(random, records)
+        }
+    };
     for _ in 0..random.below(4) {
         damage(random, &mut session);
     }
@@ -101,7 +107,8 @@ fn run(program: &str, session: &[u8], random: &mut Random) -> Result<String, Str
 }
 
 fn pieces(session: &[u8], random: &mut Random) -> Vec<Vec<u8>> {
-    let most = [1, 3, 20, 500][random.below(4)];
+    // Small pieces of a long session would take long.
+    let most = [1, 3, 20, 500][random.below(4)].max(session.len() / 1000);
     let mut pieces = Vec::new();
     let mut rest = session;
     while !rest.is_empty() {

@@ -18,6 +18,19 @@ pub fn session(random: &mut Random, records: usize) -> Vec<u8> {
     writer.octets
 }
 
+/// A session that a program can't hold in one block, with more text than octets of it: most records are refused.
+pub fn long_session(random: &mut Random) -> Vec<u8> {
+    let mut octets = session(random, 40);
+    for _ in 0..random.below(30000) {
+        let kind = 1 + random.below(4) as u8;
+        let port = random.below(10) as u8;
+        let at = random.number() as u32;
+        let size = if kind <= 2 { random.below(3) } else { usize::from(kind) - 3 };
+        octets.extend(record(kind, port, at, &[0, 0][..size]));
+    }
+    octets
+}
+
 struct Writer<'a> {
     random: &'a mut Random,
     /// The ports that most records are for.
