@@ -116,3 +116,69 @@ tests-of s q = whole-tests (eqb (length s) 0) (ltb (length s) headOctets) (headH
 
 pub whole-fits : (s : List ℕ) → form s ≡ whole → sizeOf s ≤ length s
 whole-fits s q = ltb-false (length s) (sizeOf s) (tests-of s q .long)
+
+-- ---- More octets behind
+
+-- a form that is no record ends with one of two tests
+bad-tests : (e n h l b : Bool) → formBy e n h l b ≡ bad → (e ≡ false) × (n ≡ false) × ((h ≡ false) ⊎ ((h ≡ true) × (l ≡ false) × (b ≡ false)))
+bad-tests true n h l b q = (cc, cc, inl (cc))
+bad-tests false true h l b q = (cc, cc, inl (cc))
+bad-tests false false false l b q = (refl, refl, inl refl)
+bad-tests false false true true b q = (refl, refl, inl (cc))
+bad-tests false false true false false q = (refl, refl, inr (refl, refl, refl))
+bad-tests false false true false true q = (refl, refl, inl (cc))
+
+by-whole : (e n h l b : Bool) → e ≡ false → n ≡ false → h ≡ true → l ≡ false → b ≡ true → formBy e n h l b ≡ whole
+by-whole e n h l b p q r s t = rw (p, q, r, s, t)
+
+by-head : (e n h l b : Bool) → e ≡ false → n ≡ false → h ≡ false → formBy e n h l b ≡ bad
+by-head e n h l b p q r = rw (p, q, r)
+
+by-octet : (e n h l b : Bool) → e ≡ false → n ≡ false → h ≡ true → l ≡ false → b ≡ false → formBy e n h l b ≡ bad
+by-octet e n h l b p q r s t = rw (p, q, r, s, t)
+
+module _ (a b : List ℕ) where
+  pub at-kept : (k : ℕ) → k < length a → at (a ++ b) k ≡ at a k
+  at-kept k h = List·getD-append a b 0 k h
+
+  head-kept : 9 ≤ length a → headHolds (a ++ b) ≡ headHolds a
+  head-kept h = simp (at-kept 0 (omega arith), at-kept 1 (omega arith), at-kept 2 (omega arith), at-kept 8 (omega arith))
+
+  some-kept : 9 ≤ length a → eqb (length (a ++ b)) 0 ≡ false
+  some-kept h = ne-eqb (length (a ++ b)) 0 (λ e. omega (arith, length-append a b))
+
+  headed-kept : 9 ≤ length a → ltb (length (a ++ b)) 9 ≡ false
+  headed-kept h = le-ltb (length (a ++ b)) 9 (omega (arith, length-append a b))
+
+  room-kept : 9 ≤ length a → sizeOf a ≤ length a → ltb (length (a ++ b)) (sizeOf (a ++ b)) ≡ false
+  room-kept h g = le-ltb (length (a ++ b)) (sizeOf (a ++ b)) (omega (arith, length-append a b, at-kept 8 (omega arith)))
+
+  octet-by : (k : Bool) → eqb (kindOf a) 4 ≡ k → 9 ≤ length a → sizeOf a ≤ length a → headHolds a ≡ true → octetHolds (a ++ b) ≡ octetHolds a
+  octet-by false e h g r =
+      let e′ : eqb (kindOf (a ++ b)) 4 ≡ false = rw (at-kept 2 (omega arith)) e in
+      others (a ++ b) (head-kept h ∙ r) e′ ∙ sym (others a r e)
+  octet-by true e h g r =
+      let f : lengthOf a ≡ 1 = four a r (eqb-true (kindOf a) 4 e) in
+      simp (at-kept 2 (omega arith), at-kept 9 (omega arith))
+
+  octet-kept : 9 ≤ length a → sizeOf a ≤ length a → headHolds a ≡ true → octetHolds (a ++ b) ≡ octetHolds a
+  octet-kept = octet-by (eqb (kindOf a) 4) refl
+
+  pub whole-kept : form a ≡ whole → form (a ++ b) ≡ whole
+  whole-kept q =
+      let t = tests-of a q in
+      let h : 9 ≤ length a = ltb-false (length a) 9 (t .headed) in
+      let g = whole-fits a q in
+      by-whole _ _ _ _ _ (some-kept h) (headed-kept h) (head-kept h ∙ t .right) (room-kept h g) (octet-kept h g (t .right) ∙ t .good)
+
+  pub bad-kept : form a ≡ bad → form (a ++ b) ≡ bad
+  bad-kept q =
+      let t = bad-tests (eqb (length a) 0) (ltb (length a) 9) (headHolds a) (ltb (length a) (sizeOf a)) (octetHolds a) q in
+      let h : 9 ≤ length a = ltb-false (length a) 9 (t .1) in
+      ⊎-elim
+      (λ w. by-head _ _ _ (ltb (length (a ++ b)) (sizeOf (a ++ b))) (octetHolds (a ++ b)) (some-kept h) (headed-kept h) (head-kept h ∙ w))
+      (λ w. by-octet _ _ _ _ _ (some-kept h) (headed-kept h) (head-kept h ∙ w .0) (room-kept h (ltb-false (length a) (sizeOf a) (w .1))) (octet-kept h (ltb-false (length a) (sizeOf a) (w .1)) (w .0) ∙ w .2))
+      (t .2)
+
+pub bad-some : (s : List ℕ) → form s ≡ bad → eqb (length s) 0 ≡ false
+bad-some s q = bad-tests (eqb (length s) 0) (ltb (length s) 9) (headHolds s) (ltb (length s) (sizeOf s)) (octetHolds s) q .0

@@ -4,3 +4,4 @@ pub mod Written
 pub mod Zeros
 pub mod Turn
 pub mod Link
+pub mod Blocks
