@@ -14,7 +14,23 @@ use Rattle.bench.specs.History.{Call, history, after}
 use Rattle.session.specs.declared.State.{State}
 use Rattle.session.specs.Format.{kindOf, portOf, clockOf, lengthOf, octetsOf, sizeOf, Form, nothing, part, bad, whole, form}
 use Rattle.session.specs.Run.{
-  Entry, entry, entryOf, isWhole, recordsOf, restOf, callOf, callsOf, start, applied, lineOf, ran, told, closing, printed, lineRoom, fedOf,
+  Entry,
+  entry,
+  entryOf,
+  isWhole,
+  recordsOf,
+  restOf,
+  callOf,
+  callsOf,
+  start,
+  applied,
+  lineOf,
+  ran,
+  told,
+  closing,
+  printed,
+  lineRoom,
+  fedOf,
 }
 use Rattle.session.proofs.Form.{at-kept, whole-kept, bad-kept, bad-some, tests-of, whole-fits}
 use Rattle.session.proofs.Link.{no-record, no-rest, first-record, first-rest}

@@ -5,3 +5,4 @@ pub mod Zeros
 pub mod Turn
 pub mod Link
 pub mod Blocks
+pub mod Seven

@@ -1,9 +1,9 @@
-use mathlib.Core.Path.{ap, _∙_}
+use mathlib.Core.Path.{_≡_, ap, _∙_}
 use denote.Ref.{now}
 use Rattle.bench.specs.declared.Port.{Port}
 use Rattle.bench.specs.declared.PortAfter.{PortAfter}
 use Rattle.spdu.specs.Signature.{byTables}
-use Rattle.session.specs.Run.{entry, turnedBy, doneBy}
+use Rattle.session.specs.Run.{entry, addressed, turnedBy, doneBy}
 use borrow.Author.Needs.{needs}
 use Rattle.session.proofs.run.turn.Statement.{statement}
 use Rattle.session.proofs.run.turn.Tie as tie
@@ -33,8 +33,9 @@ returns c =
     let a = d .before .before .before .before .args in
     let sign = byTables (now (a .short)) (now (a .long)) in
     let e = entry (a .kind) (a .port) (a .at) (now (a .octets)) in
-    c .kept .ensures
-    ∙ ap (λ (r : PortAfter). turnedBy (a .p) (a .port) r) (d .done-at .ensures ∙ ap (λ (p : Port). doneBy sign p e) (d .before .addressed .ensures))
+    let mid : _≡_ {A = PortAfter} (d .done-at .result) (doneBy sign (addressed (a .p) (a .port)) e) =
+    d .done-at .ensures ∙ ap (λ (p : Port). doneBy sign p e) (d .before .addressed .ensures) in
+    _∙_ {b = turnedBy (a .p) (a .port) (d .done-at .result)} (c .kept .ensures) (ap (λ (r : PortAfter). turnedBy (a .p) (a .port) r) mid)
 
 pub turn-spec : {M : Type 1} → statement M
 turn-spec = tie.close (tie.spec addressed-requires done-at-requires kept-requires returns)
