@@ -212,8 +212,8 @@ fn bench_of(st: State) -> Bench
     st.bench
 }
 
-// Reads the whole records of s, and writes the lines of those that are refused at the front of out. It stops before a record where out has no
-// room for one more line each of the records before it and of this.
+// Reads the whole records of s, and writes the lines of those that are refused at the front of out. It takes at most as many records as out
+// has room for lines, of 64 octets each.
 pub fn feed(st: State, s: &[u8], out: &mut [u8]) -> Fed
     ensures { λ r. ⌜ r ≡ runs.fedOf st (now (s .entry)) (length (now (out .entry))) ⌝ }
     ensures { λ _. ⌜ now (out .exit) ≡ runs.fedText st (now (s .entry)) (now (out .entry)) ⌝ }
