@@ -23,6 +23,7 @@ use Rattle.histogram.specs.declared.Histogram.{Histogram}
 use Rattle.histogram.specs.Counted.{clearedOf, countedOf}
 use Rattle.bench.specs.declared.Port.{Port}
 use Rattle.bench.specs.declared.Bench.{Bench}
+use Rattle.bench.specs.declared.Moved.{Moved}
 use Rattle.bench.specs.declared.Reply.{Reply}
 use Rattle.bench.specs.declared.PortAfter.{PortAfter}
 use Rattle.bench.specs.declared.BenchAfter.{BenchAfter}
@@ -107,7 +108,19 @@ withPort b port p = cond (outside 1 8 port) b (record { ports = set (b .ports) (
 unfoldable pub sentAt : Master → Row → ℕ → ℕ
 sentAt m watchdog at = cond (eqb (rowNumberOf watchdog) 0 || eqb (m .MCount) 0) (m .sample) at
 
--- "A sample is the first response that passes for each count sent, with elapsed t at most W", and not an old one (R14a)
+-- A happening at the FS-Master. `passes`: a response has come that passes and is not old (R14a), t ms after the count that it answers was
+-- first sent.
+abbrev pub movedOf : Master → ℕ → Happening → Moved
+movedOf m w h =
+    let o = masters.stepOf m w h in
+    record {
+      master = o .master;
+      mark = o .mark;
+      passes = o .passed && not (o .old);
+      t = elapsedOf (readingOf h) (sentAt m (o .watchdog) (readingOf h));
+    }
+
+-- "A sample is the first response that passes for each count sent, with elapsed t at most W"
 unfoldable pub tallied : Histogram → ℕ → Bool → ℕ → Histogram
 tallied h w passes t = cond (passes && leb t w) (countedOf h w t) h
 
@@ -115,16 +128,15 @@ tallied h w passes t = cond (passes && leb t w) (countedOf h w t) h
 unfoldable pub stepOf : Port → Happening → PortAfter
 stepOf p h =
     let w = p .params .«FSP_WatchdogTime» in
-    let m = masters.stepOf (p .master) w h in
+    let m = movedOf (p .master) w h in
     let d = devices.stepOf (p .device) w h in
-    let t = elapsedOf (readingOf h) (sentAt (p .master) (m .watchdog) (readingOf h)) in
     record {
       port = record {
         running = p .running;
         params = p .params;
         master = m .master;
         device = d .device;
-        histogram = tallied (p .histogram) w (m .passed && not (m .old)) t;
+        histogram = tallied (p .histogram) w (m .passes) (m .t);
       };
       reply = record {
         answer = Taken;

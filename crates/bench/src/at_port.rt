@@ -6,6 +6,7 @@ ghost use Rattle.answer.specs.Rules.{answerBy};
 ghost use Rattle.bench.specs.Ports as ports;
 ghost use Rattle.bench.specs.Calls as calls;
 use crate::Bench;
+use crate::Moved;
 use crate::Port;
 use crate::PortAfter;
 use crate::Reply;
@@ -72,18 +73,31 @@ fn tallied(h: Histogram, w: u16, passes: bool, t: u32) -> Histogram
     h
 }
 
+// A happening at the FS-Master of a port whose watchdog time is w.
+pub fn move_master(m: Master, w: u16, happening: Happening) -> Moved
+    ensures { λ r. ⌜ r ≡ ports.movedOf m w happening ⌝ }
+{
+    let after = fs_master::step(m, w, happening);
+    let at = scl::reading(happening);
+    let watchdog = after.watchdog;
+    let master = after.master;
+    let mark = after.mark;
+    Moved {
+        master,
+        mark,
+        passes: after.passed & !after.old,
+        t: scl::elapsed(at, sent_at(m, watchdog, at)),
+    }
+}
+
 // One happening at a port.
 fn step(p: Port, happening: Happening) -> PortAfter
     ensures { λ r. ⌜ r ≡ ports.stepOf p happening ⌝ }
 {
     let w = p.params.FSP_WatchdogTime;
-    let before = p.master;
-    let m = fs_master::step(before, w, happening);
+    let m = move_master(p.master, w, happening);
     let d = fs_device::step(p.device, w, happening);
-    let at = scl::reading(happening);
-    let watchdog = m.watchdog;
-    let t = scl::elapsed(at, sent_at(before, watchdog, at));
-    let histogram = tallied(p.histogram, w, m.passed & !m.old, t);
+    let histogram = tallied(p.histogram, w, m.passes, m.t);
     let params = p.params;
     let master = m.master;
     let device = d.device;

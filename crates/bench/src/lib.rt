@@ -7,6 +7,7 @@ mod shown;
 
 use answer::Answer;
 pub use at_port::clock_at;
+pub use at_port::move_master;
 pub use at_port::new_bench;
 pub use at_port::new_port;
 pub use at_port::operator_at;
@@ -48,6 +49,15 @@ pub struct Port {
 #[repr(C)]
 pub struct Bench {
     pub ports: [Port; 8],
+}
+
+// What a happening does at an FS-Master. `passes`: a response has come that passes and is the first for its count, t ms after that count was
+// first sent.
+pub struct Moved {
+    pub master: Master,
+    pub mark: Mark,
+    pub passes: bool,
+    pub t: u32,
 }
 
 // What a call says: its answer, and for each end what is handed on and whether the end releases after the call. In a refusal nothing is

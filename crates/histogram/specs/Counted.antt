@@ -6,6 +6,7 @@ use lib.Dec.{eqb}
 use lib.ListN.{getD, set, replicate}
 use Rattle.histogram.specs.Samples.{binCount, binOf, limit}
 use Rattle.histogram.specs.declared.Histogram.{Histogram}
+use Rattle.histogram.specs.declared.Totals.{Totals}
 
 -- "When it reaches 4,294,967,295 .. a frozen mark is set"
 unfoldable pub frozenOf : Histogram → Bool
@@ -33,6 +34,13 @@ withSample h w t =
 -- "the port's bins, total and trend stay as they are"
 unfoldable pub countedOf : Histogram → ℕ → ℕ → Histogram
 countedOf h w t = cond (frozenOf h) h (withSample h w t)
+
+-- a histogram in two parts
+abbrev pub totalsOf : Histogram → Totals
+totalsOf h = record { total = h .total; sum = h .sum; lowest = h .lowest; highest = h .highest }
+
+abbrev pub withBins : Totals → List ℕ → Histogram
+withBins a bins = record { bins = bins; total = a .total; sum = a .sum; lowest = a .lowest; highest = a .highest }
 
 -- samples counted one by one, the first first, from a new histogram
 abbrev pub countedAll : ℕ → List ℕ → Histogram

@@ -1,10 +1,12 @@
 // The response histogram of a port and its trend point (document 01, "The histogram and the trend").
 ghost use mathlib.Core.Path.{_≡_};
 ghost use mathlib.Core.Bool.{cond};
-ghost use Prim.Native.Nat.{_+_, _%_, _^_, min, max};
+ghost use Prim.Native.Nat.{ℕ, _+_, _%_, _^_, min, max};
+ghost use mathlib.Core.List.{List};
+ghost use lib.Dec.{eqb};
 ghost use lib.ListN.{getD, set};
-ghost use Rattle.histogram.specs.Samples.{binOf};
-ghost use Rattle.histogram.specs.Counted.{frozenOf, clearedOf, countedOf};
+ghost use Rattle.histogram.specs.Samples.{binOf, limit};
+ghost use Rattle.histogram.specs.Counted.{frozenOf, clearedOf, totalsOf, withBins, countedOf};
 ghost use Rattle.histogram.specs.Trends.{meanOf, pointOf, trendOf};
 use answer::Answer;
 
@@ -17,6 +19,14 @@ pub const LIMIT: u32 = 4294967295;
 #[repr(C)]
 pub struct Histogram {
     pub bins: [u32; BIN_COUNT],
+    pub total: u32,
+    pub sum: u64,
+    pub lowest: u16,
+    pub highest: u16,
+}
+
+// All of a histogram but its bins, for a caller that keeps the bins elsewhere.
+pub struct Totals {
     pub total: u32,
     pub sum: u64,
     pub lowest: u16,
@@ -44,10 +54,17 @@ pub fn bin(w: u16, t: u32) -> usize
     (t as usize) * BIN_COUNT / ((w as usize) + 1)
 }
 
+// Whether a total has reached the limit.
+fn reached(total: u32) -> bool
+    ensures { λ r. ⌜ r ≡ eqb total limit ⌝ }
+{
+    total == LIMIT
+}
+
 pub fn frozen(h: Histogram) -> bool
     ensures { λ r. ⌜ r ≡ frozenOf h ⌝ }
 {
-    h.total == LIMIT
+    reached(h.total)
 }
 
 // A new histogram: no sample.
@@ -95,6 +112,46 @@ fn so_far(first: bool, t: u16, end: u16) -> u16
     if first { t } else { end }
 }
 
+pub fn totals_of(h: Histogram) -> Totals
+    ensures { λ r. ⌜ r ≡ totalsOf h ⌝ }
+{
+    Totals {
+        total: h.total,
+        sum: h.sum,
+        lowest: h.lowest,
+        highest: h.highest,
+    }
+}
+
+pub fn with_bins(totals: Totals, bins: [u32; BIN_COUNT]) -> Histogram
+    ensures { λ r. ⌜ r ≡ withBins totals bins ⌝ }
+{
+    Histogram {
+        bins,
+        total: totals.total,
+        sum: totals.sum,
+        lowest: totals.lowest,
+        highest: totals.highest,
+    }
+}
+
+// What one more sample t makes of the totals, whatever the bins and their edges.
+pub fn totalled(totals: Totals, t: u16) -> Totals
+    ensures { λ r. ⌜ ((bins : List ℕ) (w : ℕ) → r ≡ totalsOf (countedOf (withBins totals bins) w t)) ⌝ }
+{
+    if reached(totals.total) {
+        totals
+    } else {
+        let first = totals.total == 0;
+        Totals {
+            total: totals.total + 1,
+            sum: std::num::wrapping_add_u64(totals.sum, t as u64),
+            lowest: lower(so_far(first, t, totals.lowest), t),
+            highest: higher(so_far(first, t, totals.highest), t),
+        }
+    }
+}
+
 // One more sample t. A frozen histogram stays as it is.
 pub fn counted(h: Histogram, w: u16, t: u16) -> Histogram
     ensures { λ r. ⌜ r ≡ countedOf h w t ⌝ }
@@ -102,16 +159,9 @@ pub fn counted(h: Histogram, w: u16, t: u16) -> Histogram
     if frozen(h) {
         return h;
     }
-    let first = h.total == 0;
     let old = h.bins;
     let bins = raised(old, bin(w, t as u32));
-    Histogram {
-        bins,
-        total: h.total + 1,
-        sum: std::num::wrapping_add_u64(h.sum, t as u64),
-        lowest: lower(so_far(first, t, h.lowest), t),
-        highest: higher(so_far(first, t, h.highest), t),
-    }
+    with_bins(totalled(totals_of(h), t), bins)
 }
 
 // Two exact conversions and one division.

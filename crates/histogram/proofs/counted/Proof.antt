@@ -1,9 +1,14 @@
--- `histogram::counted` meets its contract: a histogram that is not frozen has room for one more. Assumes nothing.
-use borrow.Author.Tests.{eqb-false}
-use native.Mathlib.Omega.{arith}
-use Rattle.histogram.specs.Samples.{limit}
-use Rattle.histogram.specs.Counted.{frozenOf, withSample, countedOf}
+-- `histogram::counted` meets its contract. Assumes nothing.
 use borrow.Author.Needs.{needs}
+use Prim.Native.Nat.{ℕ, _+_, _%_, _^_}
+use mathlib.Core.Path.{_≡_, ap, _∙_}
+use mathlib.Core.Bool.{false}
+use mathlib.Core.List.{List}
+use lib.ListN.{getD, set}
+use Rattle.histogram.specs.declared.Histogram.{Histogram}
+use Rattle.histogram.specs.declared.Totals.{Totals}
+use Rattle.histogram.specs.Samples.{binOf}
+use Rattle.histogram.specs.Counted.{frozenOf, withSample, totalsOf, withBins, countedOf}
 use Rattle.histogram.proofs.counted.Statement.{statement}
 use Rattle.histogram.proofs.counted.Tie as tie
 
@@ -11,29 +16,26 @@ returns : tie.Need-returns
 unfolding countedOf
 returns c = simp (simp (c .before .frozen .ensures) at (c .if1 .taken))
 
-add-t9 : tie.Need-add-t9
-unfolding frozenOf limit
-add-t9 c =
-    let at = c .before .before .before .before .before in
-    let below = simp (at .before .frozen .ensures) at (at .if1 .left) in
-    omega (arith, eqb-false)
+-- the two parts of a histogram that is not frozen, each with one more sample, are the whole with one
+rejoined : (h : Histogram) (w t : ℕ) → frozenOf h ≡ false
+    → withBins (totalsOf (countedOf h w t)) (set (h .bins) (binOf w t) ((getD (h .bins) (binOf w t) 0 + 1) % 2 ^ 32)) ≡ countedOf h w t
+unfolding countedOf withSample
+rejoined h w t off = simp off
 
 returns-2 : tie.Need-returns-2
-unfolding countedOf withSample
 returns-2 c =
-    let summed = c .before .before .before .before in
-    let raised = summed .before .before in
-    let at = raised .before .before .before .before in
-    simp (
-      simp (at .before .frozen .ensures) at (at .if1 .left),
-      raised .before .bin .ensures,
-      raised .raised .ensures,
-      summed .wrapping-add-u64 .ensures,
-      c .before .before .before .so-far .ensures,
-      c .before .before .lower .ensures,
-      c .before .so-far2 .ensures,
-      c .higher .ensures,
-    )
+    let totalled = c .before in
+    let totals = totalled .before in
+    let raised = totals .before in
+    let at = raised .before .before .before in
+    let given = at .before .before .args in
+    let h = given .h in
+    let a = totalled .totalled .ensures (h .bins) (given .w) ∙ ap (λ (z : Totals). totalsOf (countedOf (withBins z (h .bins)) (given .w) (given .t))) (totals .totals-of .ensures) in
+    let b = raised .raised .ensures ∙ ap (λ (z : ℕ). set (h .bins) z ((getD (h .bins) z 0 + 1) % 2 ^ 32)) (raised .before .bin .ensures) in
+    c .with-bins .ensures
+    ∙ ap (λ (z : Totals). withBins z (raised .raised .result)) a
+    ∙ ap (λ (z : List ℕ). withBins (totalsOf (countedOf h (given .w) (given .t))) z) b
+    ∙ rejoined h (given .w) (given .t) (simp (at .before .frozen .ensures) at (at .if1 .left))
 
 pub counted-spec : {M : Type 1} → statement M
 counted-spec =
@@ -41,9 +43,6 @@ counted-spec =
     (tie.spec
     (λ c κs. search needs)
     returns
-    (λ c κs. search needs)
-    (λ c κs. search needs)
-    add-t9
     (λ c κs. search needs)
     (λ c κs. search needs)
     (λ c κs. search needs)

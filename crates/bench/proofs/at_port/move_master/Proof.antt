@@ -1,0 +1,11 @@
+-- `bench::at_port::move_master` meets its contract. Assumes nothing.
+use borrow.Author.Needs.{needs}
+use Rattle.bench.proofs.at_port.move_master.Statement.{statement}
+use Rattle.bench.proofs.at_port.move_master.Tie as tie
+
+returns : tie.Need-returns
+returns c = simp (c .elapsed .ensures, c .before .sent-at .ensures, c .before .before .before .before .before .reading .ensures, c .before .before .before .before .before .before .step .ensures)
+
+pub move-master-spec : {M : Type 1} → statement M
+move-master-spec =
+    tie.close (tie.spec (λ c κs. search needs) (λ c κs. search needs) (λ c κs. search needs) (λ c κs. search needs) returns)
