@@ -1,7 +1,6 @@
 // One happening at the FS-Device.
 ghost use mathlib.Core.Path.{_≡_};
 ghost use Rattle.fs_device.specs.Calls as calls;
-ghost use Rattle.fs_device.specs.Table40 as table40;
 use crate::Device;
 use crate::Outcome;
 use crate::Row;
@@ -11,6 +10,7 @@ use crate::table40::checked;
 use crate::table40::is_old;
 use crate::table40::is_taken;
 use crate::table40::taken;
+use crate::table40::timed_out;
 use crate::table40::watchdog_row;
 use scl::Check;
 use scl::Happening;
@@ -57,30 +57,28 @@ fn received(d: Device, watchdog: Row, at: u32, q: Request) -> Outcome
     }
 }
 
-fn watched(d: Device, w: u16, at: u32) -> Outcome
-    ensures { λ r. ⌜ r ≡ calls.watched d w at ⌝ }
+// The device once its watchdog has been judged: T30, T31 or no row.
+fn judged(d: Device, w: u16, at: u32) -> Device
+    ensures { λ r. ⌜ r ≡ calls.judged d w at ⌝ }
 {
-    let row = watchdog_row(d, w, at);
-    let judged = acted(d, row, at, false, false);
-    quiet(judged, row, false)
-}
-
-fn requested(d: Device, w: u16, at: u32, q: Request) -> Outcome
-    ensures { λ r. ⌜ r ≡ calls.received (calls.judged d w at) (table40.watchdogRow d w at) at q ⌝ }
-{
-    let row = watchdog_row(d, w, at);
-    let judged = acted(d, row, at, false, false);
-    received(judged, row, at, q)
+    if d.runs & scl::expired(at, d.DTimer, w) {
+        timed_out(d, at)
+    } else {
+        d
+    }
 }
 
 // A happening at a device whose watchdog time is w.
 pub fn step(d: Device, w: u16, happening: Happening) -> Outcome
     ensures { λ r. ⌜ r ≡ calls.stepOf d w happening ⌝ }
 {
+    let at = scl::reading(happening);
+    let row = watchdog_row(d, w, at);
+    let judged = judged(d, w, at);
     match happening {
-        Happening::Response(at, _) => watched(d, w, at),
-        Happening::Request(at, q) => requested(d, w, at, q),
-        Happening::Clock(at) => watched(d, w, at),
-        Happening::Operator(at, _, _) => watched(d, w, at),
+        Happening::Response(_, _) => quiet(judged, row, false),
+        Happening::Request(_, q) => received(judged, row, at, q),
+        Happening::Clock(_) => quiet(judged, row, false),
+        Happening::Operator(_, _, _) => quiet(judged, row, false),
     }
 }

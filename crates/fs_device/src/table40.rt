@@ -1,7 +1,7 @@
 // Guards and actions of 000 Table 40.
 ghost use mathlib.Core.Path.{_≡_};
 ghost use Prim.Native.Nat.{_-_};
-ghost use mathlib.Core.Bool.{cond};
+ghost use mathlib.Core.Bool.{cond, false};
 ghost use Rattle.fs_device.specs.Table40 as table40;
 use crate::Device;
 use crate::Row;
@@ -198,6 +198,17 @@ fn t30_t31(d: Device, at: u32) -> Device
     n.DCount_i = scl::inverted_count(d.MCount);
     n.state = 26;
     n
+}
+
+// What `acted` does for timeout_row's row, written apart: `acted` then has one caller and is compiled into it.
+pub(crate) fn timed_out(d: Device, at: u32) -> Device
+    ensures { λ r. ⌜ r ≡ table40.acted d (table40.timeoutRow (d .state)) at false false ⌝ }
+{
+    if (d.state == 24) | (d.state == 26) {
+        t30_t31(d, at)
+    } else {
+        d
+    }
 }
 
 pub(crate) fn acted(d: Device, row: Row, at: u32, setSD: bool, CommErr: bool) -> Device

@@ -1,7 +1,6 @@
 // One happening at the FS-Master.
 ghost use mathlib.Core.Path.{_≡_};
 ghost use Rattle.fs_master.specs.Calls as calls;
-ghost use Rattle.fs_master.specs.Table38 as table38;
 use crate::Master;
 use crate::Outcome;
 use crate::Row;
@@ -13,6 +12,7 @@ use crate::table38::is_old;
 use crate::table38::is_taken;
 use crate::table38::signalled;
 use crate::table38::taken;
+use crate::table38::timed_out;
 use crate::table38::watchdog_row;
 use scl::Check;
 use scl::Happening;
@@ -59,38 +59,32 @@ fn received(m: Master, watchdog: Row, at: u32, f: Response) -> Outcome
     }
 }
 
-fn responded(m: Master, w: u16, at: u32, f: Response) -> Outcome
-    ensures { λ r. ⌜ r ≡ calls.received (calls.judged m w at) (table38.watchdogRow m w at) at f ⌝ }
+// The master once its watchdog has been judged: T8, T14 or no row.
+fn judged(m: Master, w: u16, at: u32) -> Master
+    ensures { λ r. ⌜ r ≡ calls.judged m w at ⌝ }
 {
-    let row = watchdog_row(m, w, at);
-    let judged = acted(m, row, at, false);
-    received(judged, row, at, f)
-}
-
-fn watched(m: Master, w: u16, at: u32) -> Outcome
-    ensures { λ r. ⌜ r ≡ calls.watched m w at ⌝ }
-{
-    let row = watchdog_row(m, w, at);
-    let judged = acted(m, row, at, false);
-    quiet(judged, row, false)
-}
-
-fn operated(m: Master, w: u16, at: u32, setSD_C: bool, ChFAck_C: bool) -> Outcome
-    ensures { λ r. ⌜ r ≡ calls.operated m w at «setSD_C» «ChFAck_C» ⌝ }
-{
-    let row = watchdog_row(m, w, at);
-    let judged = acted(m, row, at, false);
-    quiet(signalled(judged, setSD_C, ChFAck_C), row, false)
+    if m.runs & scl::expired(at, m.MTimer, w) {
+        timed_out(m, at)
+    } else {
+        m
+    }
 }
 
 // A happening at a master whose watchdog time is w.
 pub fn step(m: Master, w: u16, happening: Happening) -> Outcome
     ensures { λ r. ⌜ r ≡ calls.stepOf m w happening ⌝ }
 {
+    let at = scl::reading(happening);
+    let row = watchdog_row(m, w, at);
+    let judged = judged(m, w, at);
     match happening {
-        Happening::Response(at, f) => responded(m, w, at, f),
-        Happening::Request(at, _) => watched(m, w, at),
-        Happening::Clock(at) => watched(m, w, at),
-        Happening::Operator(at, setSD_C, ChFAck_C) => operated(m, w, at, setSD_C, ChFAck_C),
+        Happening::Response(_, f) => received(judged, row, at, f),
+        Happening::Request(_, _) => quiet(judged, row, false),
+        Happening::Clock(_) => quiet(judged, row, false),
+        Happening::Operator(_, setSD_C, ChFAck_C) => quiet(
+            signalled(judged, setSD_C, ChFAck_C),
+            row,
+            false,
+        ),
     }
 }

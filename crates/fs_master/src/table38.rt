@@ -1,5 +1,6 @@
 // Guards and actions of 000 Table 38.
 ghost use mathlib.Core.Path.{_≡_};
+ghost use mathlib.Core.Bool.{false};
 ghost use Rattle.fs_master.specs.Table38 as table38;
 use crate::Master;
 use crate::Row;
@@ -239,6 +240,16 @@ fn t14(m: Master, at: u32) -> Master
     n.runs = true;
     n.state = 7;
     n
+}
+
+// What `acted` does for timeout_row's row, written apart: `acted` then has one caller and is compiled into it.
+pub(crate) fn timed_out(m: Master, at: u32) -> Master
+    ensures { λ r. ⌜ r ≡ table38.acted m (table38.timeoutRow (m .state)) at false ⌝ }
+{
+    if m.state == 5 {
+        return t8(m, at);
+    }
+    if m.state == 7 { t14(m, at) } else { m }
 }
 
 pub(crate) fn acted(m: Master, row: Row, at: u32, SDset: bool) -> Master

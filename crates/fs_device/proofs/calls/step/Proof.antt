@@ -1,28 +1,39 @@
-use Rattle.fs_device.specs.Calls.{stepOf}
+use Rattle.fs_device.specs.Calls.{watched, stepOf}
 use borrow.Author.Needs.{needs}
 use Rattle.fs_device.proofs.calls.step.Statement.{statement}
 use Rattle.fs_device.proofs.calls.step.Tie as tie
 
 returns : tie.Need-returns
-unfolding stepOf
-returns c = simp (c .before .before .happening .given .1) (c .watched .ensures)
+unfolding stepOf watched
+returns c =
+    simp
+    (c .quiet .ensures, c .before .before .before .judged .ensures, c .before .before .before .before .watchdog-row .ensures, c .before .before .before .before .before .reading .ensures, c .before .enum-told .given .1)
 
 returns-2 : tie.Need-returns-2
 unfolding stepOf
-returns-2 c = simp (c .before .before .happening2 .given .1) (c .requested .ensures)
+returns-2 c =
+    simp
+    (c .received .ensures, c .before .before .before .before .judged .ensures, c .before .before .before .before .before .watchdog-row .ensures, c .before .before .before .before .before .before .reading .ensures, c .before .before .happening .given .1)
 
 returns-3 : tie.Need-returns-3
-unfolding stepOf
-returns-3 c = simp (c .before .before .happening3 .given .1) (c .watched2 .ensures)
+unfolding stepOf watched
+returns-3 c =
+    simp
+    (c .quiet2 .ensures, c .before .before .before .judged .ensures, c .before .before .before .before .watchdog-row .ensures, c .before .before .before .before .before .reading .ensures, c .before .enum-told2 .given .1)
 
 returns-4 : tie.Need-returns-4
-unfolding stepOf
-returns-4 c = simp (c .before .before .happening4 .given .1) (c .watched3 .ensures)
+unfolding stepOf watched
+returns-4 c =
+    simp
+    (c .quiet3 .ensures, c .before .before .before .judged .ensures, c .before .before .before .before .watchdog-row .ensures, c .before .before .before .before .before .reading .ensures, c .before .enum-told3 .given .1)
 
 pub step-spec : {M : Type 1} → statement M
 step-spec =
     tie.close
     (tie.spec
+    (λ c κs. search needs)
+    (λ c κs. search needs)
+    (λ c κs. search needs)
     (λ c. search needs)
     (λ c κs. search needs)
     (λ c. search needs)
