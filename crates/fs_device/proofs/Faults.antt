@@ -3,7 +3,7 @@ use Prim.Native.Nat.{ℕ, _≤_}
 use mathlib.Core.Path.{_≡_, refl}
 use mathlib.Core.Bool.{Bool, true, false, cond, not, _&&_, _||_}
 use lib.Dec.{eqb}
-use borrow.Author.Tests.{le-ltb}
+use borrow.Author.Tests.{le-ltb, not-true}
 use Rattle.scl.specs.Time.{elapsedOf, expiredOf}
 use Rattle.scl.specs.Counts.{inverted}
 use Rattle.scl.specs.Happenings.{checkOf, isFailure}
@@ -18,7 +18,7 @@ use Rattle.fs_device.specs.declared.Outcome.{Outcome}
 use Rattle.fs_device.specs.declared.Row.{Row}
 use Rattle.fs_device.specs.declared.Row.the-variants.{Stay, T22, T25, T28, T29, T30, T31}
 use Rattle.fs_device.specs.Table40.{timeoutRow, watchdogRow, isOld, isTaken, countHolds, checked, arrivalRow, taken, t22, t25, t28, t29, t30t31, acted}
-use Rattle.fs_device.specs.Calls.{judged, quiet, arrived, received, watched, stepOf}
+use Rattle.fs_device.specs.Calls.{judged, quiet, arrived, received, watched, stepOf, stands}
 use Rattle.fs_device.specs.History.{Mirrors, lastTaken, waits, sound}
 
 -- Time
@@ -35,6 +35,18 @@ in-time d w at h = stays (d .runs) (expiredOf at (d .DTimer) w) (timeoutRow (d .
 pub in-time-judged : (d : Device) (w at : ℕ) → elapsedOf at (d .DTimer) ≤ w → judged d w at ≡ d
 unfolding judged acted
 in-time-judged d w at h = rw (in-time d w at h)
+
+judged-stands : (d : Device) (w at : ℕ) → not (d .runs && expiredOf at (d .DTimer) w) ≡ true → judged d w at ≡ d
+unfolding judged watchdogRow acted
+judged-stands d w at e = rw (not-true (d .runs && expiredOf at (d .DTimer) w) e)
+
+-- Where no SPDU came for it and its watchdog is not over, the device is as it was.
+pub stands-same : (d : Device) (w : ℕ) (h : Happening) → stands d w h ≡ true → stepOf d w h .device ≡ d
+unfolding stands stepOf watched quiet
+stands-same d w (happening.Request at q) e = no (cc)
+stands-same d w (happening.Response at f) e = judged-stands d w at e
+stands-same d w (happening.Clock at) e = judged-stands d w at e
+stands-same d w (happening.Operator at setSD ack) e = judged-stands d w at e
 
 -- the watchdog's rows, and the rows of an SPDU that is taken, one by one
 module _ (d : Device) (w at : ℕ) (P : Device → Type 0) where

@@ -1,6 +1,7 @@
 -- One happening at the FS-Device: the watchdog is judged with its reading, then an SPDU that came for this end. Assumes nothing.
 use Prim.Native.Nat.{ℕ}
-use mathlib.Core.Bool.{Bool, true, false, cond, not}
+use mathlib.Core.Bool.{Bool, true, false, cond, not, _&&_}
+use Rattle.scl.specs.Time.{expiredOf}
 use Rattle.scl.specs.Happenings.{isFailure, handedOn}
 use Rattle.scl.specs.declared.Happening.{Happening}
 use Rattle.scl.specs.declared.Happening.the-variants as happening
@@ -57,3 +58,10 @@ stepOf d w (happening.Request at q) = received (judged d w at) (watchdogRow d w 
 stepOf d w (happening.Response at response) = watched d w at
 stepOf d w (happening.Clock at) = watched d w at
 stepOf d w (happening.Operator at setSD ack) = watched d w at
+
+-- no SPDU came for the FS-Device and its watchdog is not over: the happening leaves it as it stands
+unfoldable pub stands : Device → ℕ → Happening → Bool
+stands d w (happening.Request at q) = false
+stands d w (happening.Response at response) = not (d .runs && expiredOf at (d .DTimer) w)
+stands d w (happening.Clock at) = not (d .runs && expiredOf at (d .DTimer) w)
+stands d w (happening.Operator at setSD ack) = not (d .runs && expiredOf at (d .DTimer) w)

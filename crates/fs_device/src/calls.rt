@@ -82,3 +82,16 @@ pub fn step(d: Device, w: u16, happening: Happening) -> Outcome
         Happening::Operator(_, _, _) => quiet(judged, row, false),
     }
 }
+
+// Whether a happening leaves the device as it stands: no SPDU came for it and its watchdog is not over.
+pub fn stands(d: Device, w: u16, happening: Happening) -> bool
+    ensures { λ r. ⌜ r ≡ calls.stands d w happening ⌝ }
+{
+    let over = d.runs & scl::expired(scl::reading(happening), d.DTimer, w);
+    match happening {
+        Happening::Response(_, _) => !over,
+        Happening::Request(_, _) => false,
+        Happening::Clock(_) => !over,
+        Happening::Operator(_, _, _) => !over,
+    }
+}

@@ -2,6 +2,7 @@
 mod calls;
 mod table40;
 
+pub use calls::stands;
 pub use calls::step;
 pub use table40::first;
 pub use table40::row_number;
