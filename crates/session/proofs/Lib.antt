@@ -1,8 +1,9 @@
 pub mod Form
 pub mod Numeral
 pub mod Written
-pub mod Zeros
+pub mod Seven
+pub mod Beside
 pub mod Turn
+pub mod Acted
 pub mod Link
 pub mod Blocks
-pub mod Seven

@@ -4,18 +4,19 @@ use native.Mathlib.Omega.{arith}
 use mathlib.Core.Path.{_≡_, refl, sym, ap, _∙_}
 use mathlib.Core.Bool.{Bool, true, false, cond}
 use mathlib.Core.List.{List, [], _∷_, _++_, append-assoc, append-nil}
-use lib.ListN.{length, getD, set, take, drop, length-drop, take-append-drop}
+use lib.ListN.{length, getD, take, drop, length-drop, take-append-drop}
 use lib.Seq.{drop-drop, length-take-le}
 use Rattle.answer.specs.declared.Answer.{Answer}
 use Rattle.spdu.specs.Signature.{byBits}
+use Rattle.bench.specs.declared.Port.{Port}
 use Rattle.bench.specs.declared.Bench.{Bench}
 use Rattle.bench.specs.Ports.{noPort}
 use Rattle.bench.specs.History.{answerOf, after}
 use Rattle.session.specs.declared.State.{State}
 use Rattle.session.specs.declared.Stop.{Stop}
-use Rattle.session.specs.declared.Turned.{Turned}
+use Rattle.session.specs.declared.Act.{Act}
 use Rattle.session.specs.declared.Fed.{Fed}
-use Rattle.session.specs.Format.{portOf, lengthOf, sizeOf, Form, nothing, part, bad, whole, form}
+use Rattle.session.specs.Format.{portOf, clockOf, lengthOf, sizeOf, Form, nothing, part, bad, whole, form}
 use Rattle.session.specs.Text.{Written}
 use Rattle.session.specs.Run.{
   Entry,
@@ -37,11 +38,11 @@ use Rattle.session.specs.Run.{
   fedOf,
   fedText,
   fronted,
-  turnBy,
-  placeOf,
 }
+use Rattle.session.specs.Acts.{actBy, answerIn, placeOf}
+use Rattle.session.specs.Columns.{stateOf}
 use Rattle.session.proofs.Form.{Found}
-use Rattle.session.proofs.Turn.{turn-bench, turn-answer}
+use Rattle.session.proofs.Turn.{actPorts, turn-bench, turn-answer}
 use Rattle.session.proofs.Written.{agree}
 
 is-whole : {f : Form} → f ≡ whole → isWhole f ≡ true
@@ -112,9 +113,6 @@ module _ {st₀ : State} {s out₀ : List ℕ} {n : ℕ} {out : List ℕ} {st : 
 
 -- ---- What `feed` gives
 
-abbrev pub stateOf : Bench → ℕ → ℕ → State
-stateOf b records refused = record { bench = b; records = records; refused = refused }
-
 same-fed : {st st′ : State} {u u′ w w′ : ℕ} {z z′ : Stop} → st ≡ st′ → u ≡ u′ → w ≡ w′ → z ≡ z′
     → _≡_ {A = Fed} (record { state = st; used = u; written = w; stop = z }) (record { state = st′; used = u′; written = w′; stop = z′ })
 same-fed {st} {st′} {u} {u′} {w} {w′} {z} {z′} a b c d = rw (a, b, c, d)
@@ -132,30 +130,36 @@ module _ {st₀ st₁ : State} {s out₀ : List ℕ} {n : ℕ} {out : List ℕ} 
   unfolding fedText
   text-out = rw (← same, ← room) (out-is l none left a b)
 
--- a record read, its turn taken and its line written
-module _ (b : Bench) (records refused k m : ℕ) (e : Entry) (t : Turned) (hk : k ≡ placeOf (e .port))
-    (ht : t ≡ turnBy byBits (getD (b .ports) k noPort) e) (hm : m ≡ more records) where
-  answer-is : t .answer ≡ answerOf b (callOf b e)
-  answer-is = ap (λ (t : Turned). t .answer) ht ∙ ap (λ (k : ℕ). turnBy byBits (getD (b .ports) k noPort) e .answer) hk ∙ turn-answer b e
+-- a record read, its act done and its line written
+module _ (b : Bench) (records refused m : ℕ) (e : Entry) (p : Port) (b′ : Bench) (a : Act) (x : Answer)
+    (hp : p ≡ getD (b .ports) (placeOf (e .port)) noPort)
+    (ha : a ≡ actBy byBits (p .running) (p .params) e)
+    (hb : b′ ≡ record { ports = actPorts (b .ports) (placeOf (e .port)) (e .at) a })
+    (hx : x ≡ answerIn a) (hm : m ≡ more records) where
+  answer-is : x ≡ answerOf b (callOf b e)
+  answer-is =
+      hx ∙ ap answerIn ha
+      ∙ ap (λ (p : Port). answerIn (actBy byBits (p .running) (p .params) e)) hp
+      ∙ turn-answer b e
 
-  bench-is : record { ports = set (b .ports) k (t .port) } ≡ after b (callOf b e)
+  bench-is : b′ ≡ after b (callOf b e)
   bench-is =
-      ap (λ (t : Turned). record { ports = set (b .ports) k (t .port) }) ht
-      ∙ ap (λ (k : ℕ). record { ports = set (b .ports) k (turnBy byBits (getD (b .ports) k noPort) e .port) }) hk
+      hb
+      ∙ ap (λ (a : Act). record { ports = actPorts (b .ports) (placeOf (e .port)) (e .at) a }) ha
+      ∙ ap (λ (p : Port). record { ports = actPorts (b .ports) (placeOf (e .port)) (e .at) (actBy byBits (p .running) (p .params) e) }) hp
       ∙ turn-bench b e
 
-  pub state-after : (r : ℕ) → r ≡ refusedAfter refused (t .answer)
-      → stateOf (record { ports = set (b .ports) k (t .port) }) m r ≡ applied (stateOf b records refused) e
+  pub state-after : (r : ℕ) → r ≡ refusedAfter refused x → stateOf b′ m r ≡ applied (stateOf b records refused) e
   unfolding applied
   state-after r hr =
-      ap (λ (n : ℕ). stateOf (record { ports = set (b .ports) k (t .port) }) n r) hm
-      ∙ ap (λ (n : ℕ). stateOf (record { ports = set (b .ports) k (t .port) }) (more records) n) hr
-      ∙ ap (λ (z : Bench). stateOf z (more records) (refusedAfter refused (t .answer))) bench-is
+      ap (λ (n : ℕ). stateOf b′ n r) hm
+      ∙ ap (λ (n : ℕ). stateOf b′ (more records) n) hr
+      ∙ ap (λ (z : Bench). stateOf z (more records) (refusedAfter refused x)) bench-is
       ∙ ap (λ (a : Answer). stateOf (after b (callOf b e)) (more records) (refusedAfter refused a)) answer-is
 
-  pub line-after : lineFor m (t .answer) ≡ lineOf (stateOf b records refused) e
+  pub line-after : lineFor m x ≡ lineOf (stateOf b records refused) e
   unfolding lineOf
-  line-after = ap (λ (n : ℕ). lineFor n (t .answer)) hm ∙ ap (λ (a : Answer). lineFor (more records) a) answer-is
+  line-after = ap (λ (n : ℕ). lineFor n x) hm ∙ ap (λ (a : Answer). lineFor (more records) a) answer-is
 
 -- the record that stands at a position
 entry-found : (s : List ℕ) (at kind port clock start next : ℕ) → Found (form (drop at s)) (drop at s) at kind port clock start next
@@ -167,17 +171,26 @@ entry-found s at kind port clock start next f =
 
 module _ (st₀ : State) (s out₀ : List ℕ) (n : ℕ) (out : List ℕ) (b : Bench) (records refused n′ at w : ℕ)
     (l : Link st₀ s out₀ n out (stateOf b records refused) n′ at w) where
-  pub stepped : (out′ : List ℕ) (kind port clock start next k m r w′ : ℕ) (t : Turned) (sign : ℕ → List ℕ → ℕ)
+  pub stepped : (out′ : List ℕ) (kind port clock start next k m r w′ : ℕ) (p : Port) (b′ : Bench) (a : Act) (x : Answer) (sign : ℕ → List ℕ → ℕ)
       → Found (form (drop at s)) (drop at s) at kind port clock start next → 0 < n′ → sign ≡ byBits → k ≡ placeOf port
-      → t ≡ turnBy sign (getD (b .ports) k noPort) (entry kind port clock (take (next - start) (drop start s)))
-      → m ≡ more records → r ≡ refusedAfter refused (t .answer) → Written out w (lineFor m (t .answer)) w′ out′
-      → Link st₀ s out₀ n out′ (stateOf (record { ports = set (b .ports) k (t .port) }) m r) (n′ - 1) next w′
-  stepped out′ kind port clock start next k m r w′ t sign f h hs hk ht hm hr v =
-      let x = drop at s in
-      let q = getD (b .ports) k noPort in
-      let ht′ : t ≡ turnBy byBits q (entryOf x) =
-      ht
-      ∙ ap (λ (sign : ℕ → List ℕ → ℕ). turnBy sign q (entry kind port clock (take (next - start) (drop start s)))) hs
-      ∙ ap (λ (e : Entry). turnBy byBits q e) (entry-found s at kind port clock start next f) in
-      let hk′ : k ≡ placeOf (portOf x) = hk ∙ ap placeOf (f .port) in
-      again l (f .stands) h (f .next) (state-after b records refused k m (entryOf x) t hk′ ht′ hm r hr) (line-after b records refused k m (entryOf x) t hk′ ht′ hm) v
+      → p ≡ getD (b .ports) k noPort
+      → a ≡ actBy sign (p .running) (p .params) (entry kind port clock (take (next - start) (drop start s)))
+      → b′ ≡ record { ports = actPorts (b .ports) k clock a }
+      → x ≡ answerIn a → m ≡ more records → r ≡ refusedAfter refused x → Written out w (lineFor m x) w′ out′
+      → Link st₀ s out₀ n out′ (stateOf b′ m r) (n′ - 1) next w′
+  stepped out′ kind port clock start next k m r w′ p b′ a x sign f h hs hk hp ha hb hx hm hr v =
+      let e = entryOf (drop at s) in
+      let ha′ : a ≡ actBy byBits (p .running) (p .params) e =
+      ha
+      ∙ ap (λ (sign : ℕ → List ℕ → ℕ). actBy sign (p .running) (p .params) (entry kind port clock (take (next - start) (drop start s)))) hs
+      ∙ ap (λ (e : Entry). actBy byBits (p .running) (p .params) e) (entry-found s at kind port clock start next f) in
+      let hk′ : k ≡ placeOf (portOf (drop at s)) = hk ∙ ap placeOf (f .port) in
+      let hp′ : p ≡ getD (b .ports) (placeOf (portOf (drop at s))) noPort = hp ∙ ap (λ (k : ℕ). getD (b .ports) k noPort) hk′ in
+      let hb′ : b′ ≡ record { ports = actPorts (b .ports) (placeOf (portOf (drop at s))) (clockOf (drop at s)) a } =
+      hb
+      ∙ ap (λ (k : ℕ). record { ports = actPorts (b .ports) k clock a }) hk′
+      ∙ ap (λ (c : ℕ). record { ports = actPorts (b .ports) (placeOf (portOf (drop at s))) c a }) (f .clock) in
+      again l (f .stands) h (f .next)
+      (state-after b records refused m e p b′ a x hp′ ha′ hb′ hx hm r hr)
+      (line-after b records refused m e p b′ a x hp′ ha′ hb′ hx hm)
+      v

@@ -49,7 +49,7 @@ zeros-zero : (n : ℕ) → allZero (replicate {A = ℕ} n 0) ≡ true
 zeros-zero zero = refl
 zeros-zero (suc n) = zeros-zero n
 
-lent : (mode n : ℕ) → safeValuesHold mode n (replicate {A = ℕ} (processOctets mode n) 0) ≡ true
+pub lent : (mode n : ℕ) → safeValuesHold mode n (replicate {A = ℕ} (processOctets mode n) 0) ≡ true
 lent mode n =
     rw (eq-eqb (length (replicate {A = ℕ} (processOctets mode n) 0)) (processOctets mode n) (length-replicate (processOctets mode n) 0), zeros-zero (processOctets mode n))
 

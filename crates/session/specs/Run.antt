@@ -1,26 +1,20 @@
 -- 01, "The session program": a session is its whole records in order, each a call on the bench, and what is printed of them. What stands behind
 -- the last whole record, if anything, is a record cut short or a bad one: a 13, which ends reading and makes no call. Assumes nothing.
 use Prim.Native.Nat.{ℕ, zero, suc, _+_, _-_, _/_, _%_, _^_, min}
-use mathlib.Core.Bool.{Bool, true, false, cond, not, _&&_}
+use mathlib.Core.Bool.{Bool, true, false, cond, not}
 use mathlib.Core.List.{List, [], _∷_, _++_}
 use lib.Dec.{eqb, ltb}
 use lib.ListN.{length, getD, drop, replicate}
 use Rattle.answer.specs.declared.Answer.{Answer}
 use Rattle.answer.specs.declared.Answer.the-variants as answers
 use Rattle.answer.specs.Answers.{numberOf, isTaken}
-use Rattle.ranges.specs.Fields.{outside}
 use Rattle.block.specs.declared.Params.{Params}
 use Rattle.spdu.specs.Places.{processOctets}
-use Rattle.spdu.specs.Fields.{responseBy}
-use Rattle.bench.specs.declared.Port.{Port}
 use Rattle.bench.specs.declared.Bench.{Bench}
-use Rattle.bench.specs.declared.PortAfter.{PortAfter}
-use Rattle.bench.specs.Ports.{newPort, newBench, portAt}
-use Rattle.bench.specs.Calls as calls
+use Rattle.bench.specs.Ports.{newBench, portAt}
 use Rattle.bench.specs.History.{Call, SetParameters, ReceiveResponse, Clock, Operator, answerOf, after, history}
 use Rattle.session.specs.declared.State.{State}
 use Rattle.session.specs.declared.Fed.{Fed}
-use Rattle.session.specs.declared.Turned.{Turned}
 use Rattle.session.specs.declared.Stop.{Stop}
 use Rattle.session.specs.declared.Stop.the-variants.{Full, Bad, Cut, End}
 use Rattle.session.specs.Format.{kindOf, portOf, clockOf, octetsOf, sizeOf, Form, nothing, part, bad, whole, form}
@@ -180,41 +174,3 @@ fedText st s out = fronted (told st (recordsOf (length out / lineRoom) s)) out
 -- what `finish` writes into a buffer of `room` octets
 unfoldable pub finishText : State → Bool → ℕ → List ℕ
 finishText st some room = cond (ltb room closingRoom) [] (closing st some)
-
--- ---- At the port addressed
-
--- the zeros that are lent in parts
-abbrev pub lentZeros : List ℕ
-lentZeros = replicate 255 0
-
-abbrev pub responseDone : (ℕ → List ℕ → ℕ) → Port → ℕ → ℕ → List ℕ → PortAfter
-responseDone sign p port at octets = calls.responseAt port p at (responseBy sign (p .params) octets) (safeIn (p .params))
-
-abbrev pub clockDone : Port → ℕ → ℕ → PortAfter
-clockDone p port at = calls.clockAt port p at (safeIn (p .params)) (safeOut (p .params))
-
-abbrev pub operatorDone : Port → ℕ → ℕ → List ℕ → PortAfter
-operatorDone p port at octets = calls.operatorAt port p at (setSDIn octets) (ackIn octets) (safeIn (p .params))
-
--- what a record does there, by a method of signing
-abbrev pub doneBy : (ℕ → List ℕ → ℕ) → Port → Entry → PortAfter
-doneBy sign p e =
-    cond (eqb (e .kind) 1) (calls.parametersAt (e .port) p (e .at) (e .octets))
-    (cond (eqb (e .kind) 2) (responseDone sign p (e .port) (e .at) (e .octets))
-    (cond (eqb (e .kind) 3) (clockDone p (e .port) (e .at))
-    (operatorDone p (e .port) (e .at) (e .octets))))
-
--- a number that no port has addresses a port that never ran, and leaves the one that stands in its place
-abbrev pub addressed : Port → ℕ → Port
-addressed p port = cond (outside 1 8 port) newPort p
-
-abbrev pub turnedBy : Port → ℕ → PortAfter → Turned
-turnedBy p port r =
-    record { port = cond (isTaken (r .reply .answer) && not (outside 1 8 port)) (r .port) p; answer = r .reply .answer }
-
-abbrev pub turnBy : (ℕ → List ℕ → ℕ) → Port → Entry → Turned
-turnBy sign p e = turnedBy p (e .port) (doneBy sign (addressed p (e .port)) e)
-
--- where a port of that number stands; of a number that no port has, the first place
-abbrev pub placeOf : ℕ → ℕ
-placeOf port = cond (outside 1 8 port) 0 (port - 1)

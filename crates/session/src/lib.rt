@@ -2,17 +2,20 @@
 //
 // A program starts with `start`, hands on each block of octets to `feed` together with what the last call left of the block before, prints
 // what it wrote, and at the end of the input, or where a record is bad, prints what `finish` writes.
+mod calling;
+mod columns;
 mod read;
 mod run;
 mod text;
 
 use answer::Answer;
 use bench::Bench;
-use bench::Port;
+use block::Params;
 pub use read::read_record;
 pub use run::feed;
 pub use run::finish;
 pub use run::start;
+use scl::Happening;
 
 // What stands at a position of a session.
 pub enum Record {
@@ -59,8 +62,12 @@ pub struct Fed {
     pub stop: Stop,
 }
 
-// A record at the port in its place.
-pub(crate) struct Turned {
-    pub(crate) port: Port,
-    pub(crate) answer: Answer,
+// What a record asks of the port that it addresses.
+pub(crate) enum Act {
+    // Nothing: its call is refused.
+    Refused(Answer),
+    // To take these parameters.
+    Accepted(Params),
+    // To step.
+    Happens(Happening),
 }

@@ -2,25 +2,31 @@
 ghost use mathlib.Core.Path.{_≡_};
 ghost use mathlib.Core.Bool.{cond};
 ghost use Prim.Native.Nat.{_+_, _≤_, _<_};
-ghost use lib.ListN.{length, getD};
+ghost use lib.ListN.{length};
 ghost use Rattle.io.specs.Counts.{Counts};
-ghost use Rattle.spdu.specs.Signature.{byTables};
-ghost use Rattle.spdu.specs.Places.{processOctets};
 ghost use Rattle.session.specs.Run as runs;
 ghost use Rattle.session.specs.Text as lines;
+ghost use Rattle.session.specs.Acts as acts;
+ghost use Rattle.session.specs.Columns as columns;
+use crate::Act;
 use crate::Fed;
 use crate::Record;
 use crate::State;
 use crate::Stop;
-use crate::Turned;
+use crate::calling::act_answer;
+use crate::calling::act_of;
+use crate::columns::packed;
+use crate::columns::tally;
 use crate::read::read_record;
 use crate::text::port_lines;
 use crate::text::refusal_line;
 use crate::text::summary_line;
 use answer::Answer;
 use bench::Bench;
-use bench::Port;
-use bench::PortAfter;
+use block::Params;
+use fs_device::Device;
+use fs_master::Master;
+use histogram::Totals;
 
 // No record has been read.
 pub fn start() -> State
@@ -39,142 +45,8 @@ fn more(n: u64) -> u64
     if n < u64::MAX { n + 1 } else { u64::MAX }
 }
 
-fn process_octets(mode: u8, n: u8) -> usize
-    ensures { λ r. ⌜ (r ≡ processOctets mode n) × (r ≤ 255) ⌝ }
-{
-    let safety = ranges::safety_octets(mode);
-    if safety <= n {
-        (n - safety) as usize
-    } else {
-        0
-    }
-}
-
-fn first_octet(octets: &[u8]) -> u8
-    ensures { λ r. ⌜ r ≡ getD (now (octets .entry)) 0 0 ⌝ }
-{
-    if 0 < octets.len() { octets[0] } else { 0 }
-}
-
-fn response_done(
-    short: &[u16; 256],
-    long: &[u32; 256],
-    zeros: &[u8],
-    p: Port,
-    port: u8,
-    at: u32,
-    octets: &[u8],
-) -> PortAfter
-    requires { ⌜ now zeros ≡ runs.lentZeros ⌝ }
-    ensures { λ r. ⌜ r ≡ runs.responseDone (byTables (now (short .entry)) (now (long .entry))) p port at (now (octets .entry)) ⌝ }
-{
-    let params = p.params;
-    let f = spdu::read_response_by(short, long, params, octets);
-    let n = process_octets(params.FSP_ProtMode, params.SPDUInLength);
-    bench::response_at(port, p, at, f, &zeros[..n])
-}
-
-fn clock_done(zeros: &[u8], p: Port, port: u8, at: u32) -> PortAfter
-    requires { ⌜ now zeros ≡ runs.lentZeros ⌝ }
-    ensures { λ r. ⌜ r ≡ runs.clockDone p port at ⌝ }
-{
-    let params = p.params;
-    let n = process_octets(params.FSP_ProtMode, params.SPDUInLength);
-    let m = process_octets(params.FSP_ProtMode, params.SPDUOutLength);
-    bench::clock_at(port, p, at, &zeros[..n], &zeros[..m])
-}
-
-fn operator_done(zeros: &[u8], p: Port, port: u8, at: u32, octets: &[u8]) -> PortAfter
-    requires { ⌜ now zeros ≡ runs.lentZeros ⌝ }
-    ensures { λ r. ⌜ r ≡ runs.operatorDone p port at (now (octets .entry)) ⌝ }
-{
-    let params = p.params;
-    let bits = first_octet(octets);
-    let n = process_octets(params.FSP_ProtMode, params.SPDUInLength);
-    let setSD_C = bits % 2 == 1;
-    let ChFAck_C = bits / 2 % 2 == 1;
-    bench::operator_at(port, p, at, setSD_C, ChFAck_C, &zeros[..n])
-}
-
-// A record at the port that it addresses.
-fn done_at(
-    short: &[u16; 256],
-    long: &[u32; 256],
-    zeros: &[u8],
-    p: Port,
-    kind: u8,
-    port: u8,
-    at: u32,
-    octets: &[u8],
-) -> PortAfter
-    requires { ⌜ now zeros ≡ runs.lentZeros ⌝ }
-    ensures { λ r. ⌜ r ≡ runs.doneBy (byTables (now (short .entry)) (now (long .entry))) p (runs.entry kind port at (now (octets .entry))) ⌝ }
-{
-    if kind == 1 {
-        return bench::parameters_at(port, p, at, octets);
-    }
-    if kind == 2 {
-        return response_done(short, long, zeros, p, port, at, octets);
-    }
-    if kind == 3 {
-        return clock_done(zeros, p, port, at);
-    }
-    operator_done(zeros, p, port, at, octets)
-}
-
-fn addressed(p: Port, port: u8) -> Port
-    ensures { λ r. ⌜ r ≡ runs.addressed p port ⌝ }
-{
-    if ranges::outside(1, 8, port as u32) {
-        bench::new_port()
-    } else {
-        p
-    }
-}
-
-fn kept(p: Port, port: u8, done: PortAfter) -> Turned
-    ensures { λ r. ⌜ r ≡ runs.turnedBy p port done ⌝ }
-{
-    let reply = done.reply;
-    let answer = reply.answer;
-    let known = !ranges::outside(1, 8, port as u32);
-    if answer::is_taken(answer) & known {
-        let new = done.port;
-        Turned { port: new, answer }
-    } else {
-        Turned { port: p, answer }
-    }
-}
-
-// A record, p standing in the place of the port that it addresses.
-fn turn(
-    short: &[u16; 256],
-    long: &[u32; 256],
-    zeros: &[u8],
-    p: Port,
-    kind: u8,
-    port: u8,
-    at: u32,
-    octets: &[u8],
-) -> Turned
-    requires { ⌜ now zeros ≡ runs.lentZeros ⌝ }
-    ensures { λ r. ⌜ r ≡ runs.turnBy (byTables (now (short .entry)) (now (long .entry))) p (runs.entry kind port at (now (octets .entry))) ⌝ }
-{
-    let done = done_at(
-        short,
-        long,
-        zeros,
-        addressed(p, port),
-        kind,
-        port,
-        at,
-        octets,
-    );
-    kept(p, port, done)
-}
-
 fn place(port: u8) -> usize
-    ensures { λ r. ⌜ (r ≡ runs.placeOf port) × (r < 8) ⌝ }
+    ensures { λ r. ⌜ (r ≡ acts.placeOf port) × (r < 8) ⌝ }
 {
     if ranges::outside(1, 8, port as u32) {
         0
@@ -212,23 +84,55 @@ fn bench_of(st: State) -> Bench
     st.bench
 }
 
-// Reads the whole records of s, and writes the lines of those that are refused at the front of out. It takes at most as many records as out
-// has room for lines, of 64 octets each.
-pub fn feed(st: State, s: &[u8], out: &mut [u8]) -> Fed
-    ensures { λ r. ⌜ r ≡ runs.fedOf st (now (s .entry)) (length (now (out .entry))) ⌝ }
-    ensures { λ _. ⌜ now (out .exit) ≡ runs.fedText st (now (s .entry)) (now (out .entry)) ⌝ }
+// What is answered where reading stops.
+fn stopped(bench: Bench, records: u64, refused: u64, used: usize, written: usize, stop: Stop) -> Fed
+    ensures { λ r. ⌜ r ≡ record { state = record { bench = bench; records = records; refused = refused }; used = used; written = written; stop = stop } ⌝ }
+{
+    Fed {
+        state: State {
+            bench,
+            records,
+            refused,
+        },
+        used,
+        written,
+        stop,
+    }
+}
+
+// `feed`, of a bench in columns.
+fn take_records(
+    running: [bool; 8],
+    params: [Params; 8],
+    masters: [Master; 8],
+    devices: [Device; 8],
+    totals: [Totals; 8],
+    bins: [[u32; 32]; 8],
+    records: u64,
+    refused: u64,
+    s: &[u8],
+    out: &mut [u8],
+) -> Fed
+    ensures { λ r. ⌜ r ≡ runs.fedOf (columns.stateOf (columns.packed running params masters devices totals bins) records refused) (now (s .entry)) (length (now (out .entry))) ⌝ }
+    ensures { λ _. ⌜ now (out .exit) ≡ runs.fedText (columns.stateOf (columns.packed running params masters devices totals bins) records refused) (now (s .entry)) (now (out .entry)) ⌝ }
     ensures { λ r. ⌜ r .used ≤ length (now (s .entry)) ⌝ }
     ensures { λ r. ⌜ Counts (r .written) (now (out .exit)) ⌝ }
 {
     let short = signature::table16();
     let long = signature::table32();
-    let zeros = [0u8; 255];
-    let mut bench = bench_of(st);
-    let mut records = st.records;
-    let mut refused = st.refused;
+    let none = histogram::totals_of(histogram::cleared());
+    let zero = [0u32; 32];
+    let mut running = running;
+    let mut params = params;
+    let mut masters = masters;
+    let mut devices = devices;
+    let mut totals = totals;
+    let mut bins = bins;
+    let mut records = records;
+    let mut refused = refused;
     let mut left = out.len() / 64;
     let mut at = 0;
-    let mut w = 0;
+    let mut written = 0;
     loop {
         match read_record(s, at) {
             Record::Whole {
@@ -239,67 +143,122 @@ pub fn feed(st: State, s: &[u8], out: &mut [u8]) -> Fed
                 next,
             } => {
                 if left == 0 {
-                    return Fed {
-                        state: State {
-                            bench,
-                            records,
-                            refused,
-                        },
-                        used: at,
-                        written: w,
-                        stop: Stop::Full,
-                    };
+                    let bench = packed(running, params, masters, devices, totals, bins);
+                    return stopped(bench, records, refused, at, written, Stop::Full);
                 }
                 let k = place(port);
-                let p = bench.ports[k];
-                let turned = turn(&short, &long, &zeros, p, kind, port, clock, &s[start..next]);
-                let answer = turned.answer;
-                let new = turned.port;
-                bench.ports[k] = new;
+                let q = params[k];
+                let act = act_of(
+                    &short,
+                    &long,
+                    running[k],
+                    q,
+                    kind,
+                    port,
+                    clock,
+                    &s[start..next],
+                );
+                let answer = act_answer(act);
+                match act {
+                    Act::Refused(_) => {}
+                    Act::Accepted(accepted) => {
+                        let m = fs_master::first(clock);
+                        let d = fs_device::first(clock);
+                        running[k] = true;
+                        params[k] = accepted;
+                        masters[k] = m;
+                        devices[k] = d;
+                        totals[k] = none;
+                        bins[k] = zero;
+                    }
+                    Act::Happens(happening) => {
+                        let w = q.FSP_WatchdogTime;
+                        let m = masters[k];
+                        let moved = bench::move_master(m, w, happening);
+                        let master = moved.master;
+                        masters[k] = master;
+                        let d = devices[k];
+                        if !fs_device::stands(d, w, happening) {
+                            let stepped = fs_device::step(d, w, happening);
+                            let device = stepped.device;
+                            devices[k] = device;
+                        }
+                        let t = totals[k];
+                        let after = tally(&mut bins, k, t, w, moved.passes, moved.t);
+                        totals[k] = after;
+                    }
+                }
                 records = more(records);
                 refused = refused_after(refused, answer);
-                w = say(out, w, records, answer);
+                written = say(out, written, records, answer);
                 at = next;
                 left -= 1;
             }
             Record::Bad => {
-                return Fed {
-                    state: State {
-                        bench,
-                        records,
-                        refused,
-                    },
-                    used: at,
-                    written: w,
-                    stop: Stop::Bad,
-                };
+                let bench = packed(running, params, masters, devices, totals, bins);
+                return stopped(bench, records, refused, at, written, Stop::Bad);
             }
             Record::Cut => {
-                return Fed {
-                    state: State {
-                        bench,
-                        records,
-                        refused,
-                    },
-                    used: at,
-                    written: w,
-                    stop: Stop::Cut,
-                };
+                let bench = packed(running, params, masters, devices, totals, bins);
+                return stopped(bench, records, refused, at, written, Stop::Cut);
             }
             Record::End => {
-                return Fed {
-                    state: State {
-                        bench,
-                        records,
-                        refused,
-                    },
-                    used: at,
-                    written: w,
-                    stop: Stop::End,
-                };
+                let bench = packed(running, params, masters, devices, totals, bins);
+                return stopped(bench, records, refused, at, written, Stop::End);
             }
         }
     }
+}
+
+// Reads the whole records of s, and writes the lines of those that are refused at the front of out. It takes at most as many records as out
+// has room for lines, of 64 octets each.
+pub fn feed(st: State, s: &[u8], out: &mut [u8]) -> Fed
+    ensures { λ r. ⌜ r ≡ runs.fedOf st (now (s .entry)) (length (now (out .entry))) ⌝ }
+    ensures { λ _. ⌜ now (out .exit) ≡ runs.fedText st (now (s .entry)) (now (out .entry)) ⌝ }
+    ensures { λ r. ⌜ r .used ≤ length (now (s .entry)) ⌝ }
+    ensures { λ r. ⌜ Counts (r .written) (now (out .exit)) ⌝ }
+{
+    let bench = bench_of(st);
+    let no_params = block::no_params();
+    let first_master = fs_master::first(0);
+    let first_device = fs_device::first(0);
+    let none = histogram::totals_of(histogram::cleared());
+    let zero = [0u32; 32];
+    let mut running = [false; 8];
+    let mut params = [no_params; 8];
+    let mut masters = [first_master; 8];
+    let mut devices = [first_device; 8];
+    let mut totals = [none; 8];
+    let mut bins = [zero; 8];
+    let mut i = 0;
+    while i < 8 {
+        let p = bench.ports[i];
+        let q = p.params;
+        let m = p.master;
+        let d = p.device;
+        let h = p.histogram;
+        let t = histogram::totals_of(h);
+        let b = h.bins;
+        running[i] = p.running;
+        params[i] = q;
+        masters[i] = m;
+        devices[i] = d;
+        totals[i] = t;
+        bins[i] = b;
+        i += 1;
+    }
+    take_records(
+        running,
+        params,
+        masters,
+        devices,
+        totals,
+        bins,
+        st.records,
+        st.refused,
+        s,
+        out,
+    )
 }
 
 fn thirteen(out: &mut [u8], some: bool, records: u64) -> usize

@@ -1,276 +1,183 @@
--- `session::run::feed` meets its contract: what the records read and the records to come make of the start stays the same. Assumes nothing.
+-- `session::run::feed` meets its contract: the columns hold the ports of the bench. Assumes nothing.
 use borrow.Author.Needs.{needs}
 use native.Mathlib.Omega.{arith}
-use Prim.Native.Nat.{ℕ, _+_, _-_, _*_, _≤_, _<_}
+use Prim.Native.Nat.{ℕ, _+_, _-_, _≤_, _<_}
 use mathlib.Core.Path.{_≡_, refl, sym, ap, _∙_}
-use mathlib.Core.Bool.{false}
-use mathlib.Core.List.{List, []}
-use lib.ListN.{length, drop, length-drop, length-set, length-map}
-use lib.Seq.{length-take-le}
-use denote.Ref.{now}
+use mathlib.Core.Bool.{Bool}
+use mathlib.Core.List.{List}
+use lib.ListN.{length, getD, set, take, length-set, length-map}
+use Rattle.histogram.specs.Counted.{totalsOf}
+use Rattle.bench.specs.declared.Port.{Port}
 use Rattle.bench.specs.declared.Bench.{Bench}
 use Rattle.bench.specs.Ports.{noPort}
-use Rattle.spdu.proofs.Tables.{right-method}
-use Rattle.session.specs.Format.{form}
-use Rattle.session.specs.Run.{isWhole, recordsOf, restOf}
-use Rattle.session.proofs.Form.{whole-found, bad-found, cut-found, end-found, whole-fits}
-use Rattle.session.proofs.Link.{Link, stateOf, begin, fed-is, text-out, stepped, no-record, no-rest}
+use Rattle.session.specs.declared.State.{State}
+use denote.Ref.{now}
+use Rattle.session.specs.Run.{fedOf, fedText}
+use Rattle.session.specs.Columns.{joined, portsOf, packed, stateOf}
+use Rattle.session.proofs.Beside.{Eight, set-columns, length-columns, one-more, all}
 use Rattle.session.proofs.run.feed.Statement.{statement}
 use Rattle.session.proofs.run.feed.Tie as tie
 use Rattle.session.proofs.run.feed.Reads as reads
 use Rattle.session.proofs.run.feed.Lts as lts
-use Rattle.session.proofs.read.read_record.Reads as read-record-reads
+use Rattle.block.proofs.no_params.Reads as no-params-reads
+use Rattle.fs_device.proofs.first.Reads as table40-first-reads
+use Rattle.fs_master.proofs.first.Reads as table38-first-reads
+use Rattle.histogram.proofs.cleared.Reads as cleared-reads
+use Rattle.histogram.proofs.totals_of.Reads as totals-of-reads
 use Rattle.session.proofs.run.bench_of.Reads as bench-of-reads
-use Rattle.session.proofs.run.more.Reads as more-reads
-use Rattle.session.proofs.run.place.Reads as place-reads
-use Rattle.session.proofs.run.refused_after.Reads as refused-after-reads
-use Rattle.session.proofs.run.say.Reads as say-reads
-use Rattle.session.proofs.run.turn.Reads as turn-reads
-use Rattle.signature.proofs.table32.Reads as table32-reads
-use Rattle.signature.proofs.table16.Reads as table16-reads
-
-begun : {b b′ : Bench} {records refused : ℕ} → b ≡ b′ → stateOf b records refused ≡ stateOf b′ records refused
-begun {b} {b′} {records} {refused} e = ap (λ (z : Bench). stateOf z records refused) e
+use Rattle.session.proofs.run.take_records.Reads as take-records-reads
 
 abbrev Inv-loop : tie.InvT-loop
-Inv-loop s out₀ short long zeros bench₀ records₀ refused₀ left₀ at₀ w₀ out bench records refused left at w =
-    (length (bench .ports) ≡ 8)
-    × (at ≤ length s)
-    × (length out ≡ length out₀)
-    × (w + 64 * left ≤ length out₀)
-    × Link (stateOf bench₀ records₀ refused₀) s out₀ left₀ out (stateOf bench records refused) left at w
+Inv-loop st s out bench running₀ params₀ masters₀ devices₀ totals₀ bins₀ i₀ running params masters devices totals bins i =
+    (i ≤ 8) × Eight running params masters devices totals bins × (take i (portsOf running params masters devices totals bins) ≡ take i (bench .ports))
 
 abbrev μ-loop : tie.MeasureT-loop
-μ-loop s out₀ short long zeros bench₀ records₀ refused₀ left₀ at₀ w₀ out bench records refused left at w =
-    left
+μ-loop st s out bench running₀ params₀ masters₀ devices₀ totals₀ bins₀ i₀ running params masters devices totals bins i =
+    8 - i
 
--- src/run.rt:207:17
-table16-requires : tie.Need-table16-requires Inv-loop μ-loop
-table16-requires c κs = search needs
-
--- src/run.rt:208:16
-table32-requires : tie.Need-table32-requires Inv-loop μ-loop
-table32-requires c κs = search needs
-
--- src/run.rt:210:21
+-- src/run.rt:212:17
 bench-of-requires : tie.Need-bench-of-requires Inv-loop μ-loop
 bench-of-requires c κs = search needs
 
--- src/run.rt:216:5
+-- src/run.rt:213:9
+no-params-requires : tie.Need-no-params-requires Inv-loop μ-loop
+no-params-requires c κs = search needs
+
+-- src/run.rt:214:9
+first-requires : tie.Need-first-requires Inv-loop μ-loop
+first-requires c κs = search needs
+
+-- src/run.rt:215:9
+first-requires-2 : tie.Need-first-requires-2 Inv-loop μ-loop
+first-requires-2 c κs = search needs
+
+-- src/run.rt:216:37
+cleared-requires : tie.Need-cleared-requires Inv-loop μ-loop
+cleared-requires c κs = search needs
+
+-- src/run.rt:216:9
+totals-of-requires : tie.Need-totals-of-requires Inv-loop μ-loop
+totals-of-requires c κs = search needs
+
+-- src/run.rt:225:5
 loop-holds : tie.Need-loop-holds Inv-loop μ-loop
-loop-holds c =
-    (sym (length-map (c .bench-of .result .ports) _) ∙ c .bench-of .ok .1 .1 .0 .1 .0 .1, omega arith, refl, omega arith, begin _ _ _ _)
+loop-holds c = (omega arith, record { running = search needs; params = search needs; masters = search needs; devices = search needs; totals = search needs; bins = search needs }, refl)
 
--- src/run.rt:217:15
-read-record-requires : tie.Need-read-record-requires Inv-loop μ-loop
-read-record-requires c κs = search needs
-
--- src/run.rt:219:17
-enum-known-kind : tie.Need-enum-known-kind Inv-loop μ-loop
-enum-known-kind c = search needs
-
--- src/run.rt:226:21
-same-length : tie.Need-same-length Inv-loop μ-loop
-same-length c = search needs
-
--- src/run.rt:226:21
-returns : tie.Need-returns Inv-loop μ-loop
-returns c =
-    let k = c .before .before in
-    let a = k .before .before in
-    let l = a .before .loop in
-    let g = a .before .before .before .before .before .before .before in
-    let s = now (g .args .s) in
-    let x = drop (l .at) s in
-    let f = whole-found (form x) x (l .at) _ _ _ _ _ (sym (a .read-record .ensures) ∙ k .kind .given .1) in
-    let n : l .left ≡ 0 = omega arith in
-    let none : recordsOf (l .left) x ≡ [] = rw n in
-    let rest : restOf (l .left) x ≡ x = rw n in
-    let b : l .w ≤ length (l .out) = omega arith in
-    let st = begun (a .before .before .bench-of .ensures) in
-    (fed-is (l .inv .4) st refl none rest (l .inv .1) b (rw (f .stands)), (text-out (l .inv .4) st refl none rest (l .inv .1) b, (l .inv .1, (b, sym (length-take-le _ _ b)))))
-
--- src/run.rt:237:21
-place-requires : tie.Need-place-requires Inv-loop μ-loop
-place-requires c κs = search needs
-
--- src/run.rt:238:25
+-- src/run.rt:226:17
 mul-p : tie.Need-mul-p Inv-loop μ-loop
 mul-p c = search needs
 
--- src/run.rt:238:25
+-- src/run.rt:226:17
 element-copy-out-p : tie.Need-element-copy-out-p Inv-loop μ-loop
 element-copy-out-p c = search needs
 
--- src/run.rt:239:50
-slice-aggregate-turn : tie.Need-slice-aggregate-turn Inv-loop μ-loop
-slice-aggregate-turn c = search needs
+-- src/run.rt:231:13
+totals-of-requires-2 : tie.Need-totals-of-requires-2 Inv-loop μ-loop
+totals-of-requires-2 c κs = search needs
 
--- src/run.rt:239:80
-sub-turn : tie.Need-sub-turn Inv-loop μ-loop
-sub-turn c =
-    let k = c .before .before .before .before .before .before .before in
-    let a = k .before .before in
-    let l = a .before .loop in
-    let g = a .before .before .before .before .before .before .before in
-    let s = now (g .args .s) in
-    let x = drop (l .at) s in
-    let f = whole-found (form x) x (l .at) _ _ _ _ _ (sym (a .read-record .ensures) ∙ k .kind .given .1) in
-    omega (arith, f .start, f .next)
+-- src/run.rt:233:9
+array-write-running : tie.Need-array-write-running Inv-loop μ-loop
+array-write-running c = search needs
 
--- src/run.rt:239:80
-part-turn-start : tie.Need-part-turn-start Inv-loop μ-loop
-part-turn-start c =
-    let k = c .before .before .before .before .before .before .before in
-    let a = k .before .before in
-    let l = a .before .loop in
-    let g = a .before .before .before .before .before .before .before in
-    let s = now (g .args .s) in
-    let x = drop (l .at) s in
-    let f = whole-found (form x) x (l .at) _ _ _ _ _ (sym (a .read-record .ensures) ∙ k .kind .given .1) in
-    omega (arith, f .start, f .next)
+-- src/run.rt:234:9
+mul-params : tie.Need-mul-params Inv-loop μ-loop
+mul-params c = search needs
 
--- src/run.rt:239:80
-part-turn-end : tie.Need-part-turn-end Inv-loop μ-loop
-part-turn-end c =
-    let k = c .before .before .before .before .before .before .before in
-    let a = k .before .before in
-    let l = a .before .loop in
-    let g = a .before .before .before .before .before .before .before in
-    let s = now (g .args .s) in
-    let x = drop (l .at) s in
-    let f = whole-found (form x) x (l .at) _ _ _ _ _ (sym (a .read-record .ensures) ∙ k .kind .given .1) in
-    omega (arith, whole-fits x (f .stands), length-drop (l .at) s, f .start, f .next)
+-- src/run.rt:234:9
+array-set-from-params : tie.Need-array-set-from-params Inv-loop μ-loop
+array-set-from-params c = search needs
 
--- src/run.rt:239:21
-turn-requires : tie.Need-turn-requires Inv-loop μ-loop
-turn-requires c κs =
-    refl
+-- src/run.rt:235:9
+mul-masters : tie.Need-mul-masters Inv-loop μ-loop
+mul-masters c = search needs
 
--- src/run.rt:242:17
-mul-new : tie.Need-mul-new Inv-loop μ-loop
-mul-new c = search needs
+-- src/run.rt:235:9
+array-set-from-masters : tie.Need-array-set-from-masters Inv-loop μ-loop
+array-set-from-masters c = search needs
 
--- src/run.rt:242:17
-element-set-from-new : tie.Need-element-set-from-new Inv-loop μ-loop
-element-set-from-new c = search needs
+-- src/run.rt:236:9
+mul-devices : tie.Need-mul-devices Inv-loop μ-loop
+mul-devices c = search needs
 
--- src/run.rt:243:17
-more-requires : tie.Need-more-requires Inv-loop μ-loop
-more-requires c κs = search needs
+-- src/run.rt:236:9
+array-set-from-devices : tie.Need-array-set-from-devices Inv-loop μ-loop
+array-set-from-devices c = search needs
 
--- src/run.rt:244:17
-refused-after-requires : tie.Need-refused-after-requires Inv-loop μ-loop
-refused-after-requires c κs = search needs
+-- src/run.rt:237:9
+mul-totals : tie.Need-mul-totals Inv-loop μ-loop
+mul-totals c = search needs
 
--- src/run.rt:245:17
-say-requires : tie.Need-say-requires Inv-loop μ-loop
-say-requires c κs =
-    let l = c .before .before .before .before .before .before .before .before .before .before .before .before .before .before .before .before .loop in
-    omega (arith, l .inv .2, l .inv .3, c .before .before .before .before .before .before .before .before .before .before .before .if1 .left)
+-- src/run.rt:237:9
+array-set-from-totals : tie.Need-array-set-from-totals Inv-loop μ-loop
+array-set-from-totals c = search needs
 
--- src/run.rt:247:17
-sub-left : tie.Need-sub-left Inv-loop μ-loop
-sub-left c = search needs
+-- src/run.rt:238:9
+mul-bins : tie.Need-mul-bins Inv-loop μ-loop
+mul-bins c = search needs
 
--- src/run.rt:216:5
+-- src/run.rt:238:9
+array-set-from-bins : tie.Need-array-set-from-bins Inv-loop μ-loop
+array-set-from-bins c = search needs
+
+-- src/run.rt:239:9
+add-i : tie.Need-add-i Inv-loop μ-loop
+add-i c = search needs
+
+-- src/run.rt:225:5
 loop-less : tie.Need-loop-less Inv-loop μ-loop
 loop-less c = search needs
 
--- src/run.rt:216:5
+-- src/run.rt:225:5
 loop-again : tie.Need-loop-again Inv-loop μ-loop
 unfolding noPort
 loop-again c =
-    let k = c .before .before .before .before .before .before .before .before .before .before .before .before .before .before .before .before in
-    let a = k .before .before in
-    let l = a .before .loop in
-    let g = a .before .before .before .before .before .before .before in
-    let s = now (g .args .s) in
-    let x = drop (l .at) s in
-    let f = whole-found (form x) x (l .at) _ _ _ _ _ (sym (a .read-record .ensures) ∙ k .kind .given .1) in
-    let said = c .before .before in
-    let more = said .before .before .before in
-    let turned = more .before .before in
-    let placed = turned .before .before .before .before .before .before in
-    let tables = right-method (a .before .before .before .before .table16 .ensures) (a .before .before .before .table32 .ensures) in (
-      simp length-set (l .inv .0),
-      omega (arith, whole-fits x (f .stands), length-drop (l .at) s, f .start, f .next),
-      omega (arith, said .say .kept, l .inv .2),
-      omega (arith, said .say .ensures .1, l .inv .3),
-      stepped _ s _ _ (l .out) (l .bench) (l .records) (l .refused) (l .left) (l .at) (l .w) (l .inv .4) _ _ _ _ _ _ _ _ _ _ _ _ f (omega arith) tables (placed .place .ensures .0) (turned .turn .ensures) (more .more .ensures) (said .before .before .refused-after .ensures) (said .say .ensures .0),
+    let l = c .before .before .before .before .before .before .before .before .loop in
+    let b = c .before .before .before .before .before .before .before .before .before .before .before .before .before .before .bench-of .result in
+    let p = getD (b .ports) (l .i) noPort in
+    let n : length (b .ports) ≡ 8 = sym (length-map (b .ports) _) ∙ c .before .before .before .before .before .before .before .before .before .before .before .before .before .before .bench-of .ok .1 .1 .0 .1 .0 .1 in
+    let e = l .inv .1 in
+    let e′ : Eight (set (l .running) (l .i) (p .running)) (set (l .params) (l .i) (p .params)) (set (l .masters) (l .i) (p .master)) (set (l .devices) (l .i) (p .device)) (set (l .totals) (l .i) (totalsOf (p .histogram))) (set (l .bins) (l .i) (p .histogram .bins)) =
+    record {
+      running = simp length-set (e .running);
+      params = simp length-set (e .params);
+      masters = simp length-set (e .masters);
+      devices = simp length-set (e .devices);
+      totals = simp length-set (e .totals);
+      bins = simp length-set (e .bins);
+    } in
+    let same = set-columns (l .running) (l .params) (l .masters) (l .devices) (l .totals) (l .bins) (l .i) (p .running) (p .params) (p .master) (p .device) (totalsOf (p .histogram)) (p .histogram .bins) in
+    rw (c .before .totals-of2 .ensures) (
+      omega arith,
+      e′,
+      ap (λ (z : List Port). take (l .i + 1) z) same
+          ∙ one-more (portsOf (l .running) (l .params) (l .masters) (l .devices) (l .totals) (l .bins)) (b .ports) (l .i) p noPort (rw (length-columns _ _ _ _ _ _ e) (omega arith)) (rw n (omega arith)) (l .inv .2) refl,
     )
 
--- src/run.rt:252:25
-enum-told : tie.Need-enum-told Inv-loop μ-loop
-enum-told c = search needs
+-- src/run.rt:241:5
+take-records-requires : tie.Need-take-records-requires Inv-loop μ-loop
+take-records-requires c κs = search needs
 
--- src/run.rt:250:17
-same-length-2 : tie.Need-same-length-2 Inv-loop μ-loop
-same-length-2 c = search needs
+-- src/run.rt:206:1
+same-length : tie.Need-same-length Inv-loop μ-loop
+same-length c = search needs
 
--- src/run.rt:250:17
-returns-2 : tie.Need-returns-2 Inv-loop μ-loop
-returns-2 c =
-    let a = c .before .before in
-    let l = a .before .loop in
-    let g = a .before .before .before .before .before .before .before in
-    let s = now (g .args .s) in
-    let x = drop (l .at) s in
-    let f = bad-found (form x) x (l .at) (sym (a .read-record .ensures) ∙ c .enum-told .given .1) in
-    let off : isWhole (form x) ≡ false = rw f in
-    let none = no-record (l .left) x off in
-    let rest = no-rest (l .left) x off in
-    let b : l .w ≤ length (l .out) = omega arith in
-    let st = begun (a .before .before .bench-of .ensures) in
-    (fed-is (l .inv .4) st refl none rest (l .inv .1) b (rw f), (text-out (l .inv .4) st refl none rest (l .inv .1) b, (l .inv .1, (b, sym (length-take-le _ _ b)))))
-
--- src/run.rt:264:25
-enum-told-2 : tie.Need-enum-told-2 Inv-loop μ-loop
-enum-told-2 c = search needs
-
--- src/run.rt:262:17
-same-length-3 : tie.Need-same-length-3 Inv-loop μ-loop
-same-length-3 c = search needs
-
--- src/run.rt:262:17
-returns-3 : tie.Need-returns-3 Inv-loop μ-loop
-returns-3 c =
-    let a = c .before .before in
-    let l = a .before .loop in
-    let g = a .before .before .before .before .before .before .before in
-    let s = now (g .args .s) in
-    let x = drop (l .at) s in
-    let f = cut-found (form x) x (l .at) (sym (a .read-record .ensures) ∙ c .enum-told2 .given .1) in
-    let off : isWhole (form x) ≡ false = rw f in
-    let none = no-record (l .left) x off in
-    let rest = no-rest (l .left) x off in
-    let b : l .w ≤ length (l .out) = omega arith in
-    let st = begun (a .before .before .bench-of .ensures) in
-    (fed-is (l .inv .4) st refl none rest (l .inv .1) b (rw f), (text-out (l .inv .4) st refl none rest (l .inv .1) b, (l .inv .1, (b, sym (length-take-le _ _ b)))))
-
--- src/run.rt:276:25
-enum-told-3 : tie.Need-enum-told-3 Inv-loop μ-loop
-enum-told-3 c = search needs
-
--- src/run.rt:274:17
-same-length-4 : tie.Need-same-length-4 Inv-loop μ-loop
-same-length-4 c = search needs
-
--- src/run.rt:274:17
-returns-4 : tie.Need-returns-4 Inv-loop μ-loop
-returns-4 c =
-    let a = c .before .before in
-    let l = a .before .loop in
-    let g = a .before .before .before .before .before .before .before in
-    let s = now (g .args .s) in
-    let x = drop (l .at) s in
-    let f = end-found (form x) x (l .at) (sym (a .read-record .ensures) ∙ c .enum-told3 .given .1) in
-    let off : isWhole (form x) ≡ false = rw f in
-    let none = no-record (l .left) x off in
-    let rest = no-rest (l .left) x off in
-    let b : l .w ≤ length (l .out) = omega arith in
-    let st = begun (a .before .before .bench-of .ensures) in
-    (fed-is (l .inv .4) st refl none rest (l .inv .1) b (rw f), (text-out (l .inv .4) st refl none rest (l .inv .1) b, (l .inv .1, (b, sym (length-take-le _ _ b)))))
+-- src/run.rt:206:1
+returns : tie.Need-returns Inv-loop μ-loop
+returns c =
+    let t = c .before .before in
+    let l = t .before .before .before .loop in
+    let of = t .before .before .before .before .before .before .before .before .before in
+    let b = of .bench-of .result in
+    let x = of .before .before .before .args in
+    let n : length (b .ports) ≡ 8 = sym (length-map (b .ports) _) ∙ of .bench-of .ok .1 .1 .0 .1 .0 .1 in
+    let i : l .i ≡ 8 = omega (arith, l .inv .0, t .before .before .loop-test .left) in
+    let same : portsOf (l .running) (l .params) (l .masters) (l .devices) (l .totals) (l .bins) ≡ b .ports =
+    all _ (b .ports) 8 (length-columns _ _ _ _ _ _ (l .inv .1)) n (rw i at (l .inv .2)) in
+    let st : stateOf (packed (l .running) (l .params) (l .masters) (l .devices) (l .totals) (l .bins)) (x .st .records) (x .st .refused) ≡ x .st =
+    ap (λ (p : List Port). stateOf (record { ports = p }) (x .st .records) (x .st .refused)) same
+    ∙ ap (λ (z : Bench). stateOf z (x .st .records) (x .st .refused)) (of .bench-of .ensures) in
+    let r = t .take-records .ensures in
+    (r .0 ∙ ap (λ (z : State). fedOf z (now (x .s)) (length (now (x .out)))) st, (r .1 .0 ∙ ap (λ (z : State). fedText z (now (x .s)) (now (x .out))) st, r .1 .1))
 
 pub feed-spec : {M : Type 1} → statement M
 feed-spec =
@@ -278,36 +185,30 @@ feed-spec =
     (tie.spec
     Inv-loop
     μ-loop
-    table16-requires
-    table32-requires
     bench-of-requires
+    no-params-requires
+    first-requires
+    first-requires-2
+    cleared-requires
+    totals-of-requires
     loop-holds
-    read-record-requires
-    enum-known-kind
-    same-length
-    returns
-    place-requires
     mul-p
     element-copy-out-p
-    slice-aggregate-turn
-    sub-turn
-    part-turn-start
-    part-turn-end
-    turn-requires
-    mul-new
-    element-set-from-new
-    more-requires
-    refused-after-requires
-    say-requires
-    sub-left
+    totals-of-requires-2
+    array-write-running
+    mul-params
+    array-set-from-params
+    mul-masters
+    array-set-from-masters
+    mul-devices
+    array-set-from-devices
+    mul-totals
+    array-set-from-totals
+    mul-bins
+    array-set-from-bins
+    add-i
     loop-less
     loop-again
-    enum-told
-    same-length-2
-    returns-2
-    enum-told-2
-    same-length-3
-    returns-3
-    enum-told-3
-    same-length-4
-    returns-4)
+    take-records-requires
+    same-length
+    returns)
