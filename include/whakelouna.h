@@ -250,4 +250,30 @@ struct whakelouna_bins_told whakelouna_bins(struct whakelouna_bench bench, uint8
 struct whakelouna_master_told whakelouna_master(struct whakelouna_bench bench, uint8_t port);
 struct whakelouna_device_told whakelouna_device(struct whakelouna_bench bench, uint8_t port);
 
+// A session of records (document 01): the bench, the whole records read and those refused.
+struct whakelouna_state {
+    struct whakelouna_bench bench;
+    uint64_t records, refused;
+};
+
+// After a block: how many of its octets are used up and how many were written, and why reading stopped (0 a whole record for whose line there
+// may be no room, 1 no record, which ends the session, 2 a record that is not whole, 3 no octets are left).
+struct whakelouna_fed_told {
+    struct whakelouna_state state;
+    size_t used, written;
+    uint8_t stop;
+};
+
+// A session before its first record.
+struct whakelouna_state whakelouna_session_start(void);
+
+// Takes the whole records of a block and writes the lines of those refused to the front of `out`, which overlaps with nothing else that is
+// passed; at most a record for every 64 octets of it. The next block begins with the octets that are not used up.
+struct whakelouna_fed_told whakelouna_session_feed(struct whakelouna_state state, const uint8_t *octets, size_t length,
+    uint8_t *out, size_t out_length);
+
+// The end, where octets are left that are no whole record (`some`) or none are: writes what is printed there to the front of `out` and returns
+// how many octets that is; where `out` has fewer than 1152 octets it writes nothing and returns 0.
+size_t whakelouna_session_finish(struct whakelouna_state state, bool some, uint8_t *out, size_t out_length);
+
 #endif

@@ -1,3 +1,4 @@
 pub mod Benches
 pub mod Outcomes
+pub mod Sessions
 pub mod Told

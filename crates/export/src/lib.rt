@@ -4,5 +4,6 @@ mod benches;
 mod blocks;
 mod histograms;
 mod machines;
+mod sessions;
 mod signatures;
 mod spdus;

@@ -36,6 +36,7 @@ pub enum Record {
 }
 
 // How far a session has come: the bench, the whole records and those refused.
+#[repr(C)]
 pub struct State {
     pub bench: Bench,
     pub records: u64,
