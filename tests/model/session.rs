@@ -3,6 +3,7 @@
 
 use super::bench::{BenchModel, Reply};
 use super::spdu::Direction;
+use std::ops::Range;
 
 pub const MARK: [u8; 2] = [0x53, 0x4C];
 /// Mark, kind, port, clock, length.
@@ -73,12 +74,16 @@ fn well_formed(record: &Record) -> bool {
 /// never the answer; at a port that does not run 8 or 9 is, whatever is lent.
 pub fn call(bench: &mut BenchModel, record: &Record) -> Reply {
     let Record { port, at, ref octets, .. } = *record;
+    if record.kind == PARAMETERS {
+        return bench.set_parameters(port, at, octets);
+    }
     let safe_in = safe_values(bench, port, Direction::Response);
-    let safe_out = safe_values(bench, port, Direction::Request);
     match record.kind {
-        PARAMETERS => bench.set_parameters(port, at, octets),
         SPDU => bench.receive_response(port, at, octets, &safe_in),
-        CLOCK => bench.clock(port, at, &safe_in, &safe_out),
+        CLOCK => {
+            let safe_out = safe_values(bench, port, Direction::Request);
+            bench.clock(port, at, &safe_in, &safe_out)
+        }
         _ => {
             let signals = [octets[0] & 1 != 0, octets[0] & 2 != 0];
             bench.operator(port, at, signals, &safe_in)
@@ -93,24 +98,100 @@ pub fn safe_values(bench: &BenchModel, port: u8, direction: Direction) -> Vec<u8
     vec![0; octets]
 }
 
+/// Why a block is not read any further, with the library's numbers.
+#[derive(Clone, Copy, Debug, PartialEq, Eq)]
+pub enum Stop {
+    /// A whole record, for whose line there may be no room.
+    Full = 0,
+    /// No record.
+    Bad = 1,
+    /// A record that is not whole.
+    Cut = 2,
+    /// No octets.
+    End = 3,
+}
+
+/// By what stands there. Too few octets for a head are a record cut short; so are those that zeros behind them make a whole one.
+pub fn stop(octets: &[u8]) -> Stop {
+    if octets.is_empty() {
+        return Stop::End;
+    }
+    if first_record(octets).is_some() {
+        return Stop::Full;
+    }
+    match octets.get(HEAD - 1) {
+        None => Stop::Cut,
+        Some(&length) => {
+            let mut completed = octets.to_vec();
+            completed.resize(HEAD + usize::from(length), 0);
+            first_record(&completed).map_or(Stop::Bad, |_| Stop::Cut)
+        }
+    }
+}
+
+/// A run over whole records: the bench, and the answer to each of them.
+#[derive(Clone, Debug)]
+pub struct Run {
+    pub bench: BenchModel,
+    pub numbers: Vec<u8>,
+    /// How many records came before these, all of them refused.
+    earlier: u64,
+}
+
+impl Run {
+    pub fn new() -> Run {
+        Run::after(0)
+    }
+
+    pub fn after(earlier: u64) -> Run {
+        Run { bench: BenchModel::new(), numbers: Vec::new(), earlier }
+    }
+
+    pub fn take(&mut self, record: &Record) {
+        let number = call(&mut self.bench, record).number;
+        self.numbers.push(number);
+    }
+
+    /// "A, B and N stop at 2^64 - 1" (R29).
+    fn counted(&self, count: usize) -> u64 {
+        self.earlier.saturating_add(count as u64)
+    }
+
+    /// A and B after so many of the records.
+    pub fn counts(&self, records: usize) -> [u64; 2] {
+        let refused = self.numbers[..records].iter().filter(|&&number| number != 0).count();
+        [records, refused].map(|count| self.counted(count))
+    }
+
+    /// The lines of those refused among some of the records.
+    pub fn lines(&self, records: Range<usize>) -> String {
+        let refused = records.filter(|&place| self.numbers[place] != 0);
+        refused.map(|place| self.line(place, self.numbers[place])).collect()
+    }
+
+    fn line(&self, place: usize, number: u8) -> String {
+        format!("r {} code {number}\n", self.counted(place + 1))
+    }
+
+    /// What is printed at the end. Where octets are left that are no whole record (`some`), they are a 13.
+    pub fn closing(&self, some: bool) -> String {
+        let taken = self.numbers.len();
+        let [records, refused] = self.counts(taken);
+        let (thirteen, refused) = match some {
+            true => (self.line(taken, RECORD), refused.saturating_add(1)),
+            false => (String::new(), refused),
+        };
+        let ports: String = (1..=8).map(|port| port_line(&self.bench, port)).collect();
+        format!("{thirteen}records {records} refused {refused}\n{ports}")
+    }
+}
+
 /// All that `portbench` prints.
 pub fn printed(session: &[u8]) -> String {
     let Parts { records, rest } = parts(session);
-    let mut bench = BenchModel::new();
-    let mut numbers: Vec<u8> =
-        records.iter().map(|record| call(&mut bench, record).number).collect();
-    if !rest.is_empty() {
-        numbers.push(RECORD);
-    }
-    let refusals: Vec<String> = numbers
-        .iter()
-        .enumerate()
-        .filter(|(_, &number)| number != 0)
-        .map(|(place, number)| format!("r {} code {number}\n", place + 1))
-        .collect();
-    let summary = format!("records {} refused {}\n", records.len(), refusals.len());
-    let ports: String = (1..=8).map(|port| port_line(&bench, port)).collect();
-    refusals.concat() + &summary + &ports
+    let mut run = Run::new();
+    records.iter().for_each(|record| run.take(record));
+    run.lines(0..records.len()) + &run.closing(!rest.is_empty())
 }
 
 /// The line of a port that runs; no text for another.

@@ -1,7 +1,7 @@
 // Safety PDUs (000 11.4.4 to 11.4.7): process octets, port number, control or status octet,
 // signature. An octet is the list of its bits, and the signature is that of signature.rs.
 
-use super::signature::{bits_number, number_bits, octet_bits, signature, Generator, LONG, SHORT};
+use super::signature::{bits_number, number_bits, signature_by_numbers, Generator, LONG, SHORT};
 
 #[derive(Clone, Copy, Debug, PartialEq, Eq)]
 pub enum Direction {
@@ -65,7 +65,7 @@ impl Format {
 
     /// The signature of contents from seed 1, before a zero is replaced.
     pub fn computed(&self, contents: &[u8]) -> u32 {
-        signature(self.generator(), 1, contents)
+        signature_by_numbers(self.generator(), 1, contents)
     }
 
     /// The contents with their signature, a zero replaced by 1.
@@ -113,7 +113,7 @@ impl Format {
         let mut whole = spdu.to_vec();
         whole.resize(length.max(self.safety_octets()), 0);
         let trailer = &whole[whole.len() - self.safety_octets()..];
-        let bits = octet_bits(&trailer[1..2]);
+        let bits = number_bits(trailer[1].into(), 8);
         let bit2 = bits[5] && self.direction == Direction::Response;
         Fields {
             length,
