@@ -179,6 +179,20 @@ extern "C" {
     fn whakelouna_bins(bench: Bench, port: u8) -> BinsTold;
     fn whakelouna_master(bench: Bench, port: u8) -> MasterTold;
     fn whakelouna_device(bench: Bench, port: u8) -> DeviceTold;
+    fn whakelouna_session_start() -> State;
+    fn whakelouna_session_feed(
+        state: State,
+        octets: *const u8,
+        length: usize,
+        out: *mut u8,
+        out_length: usize,
+    ) -> FedTold;
+    fn whakelouna_session_finish(
+        state: State,
+        some: bool,
+        out: *mut u8,
+        out_length: usize,
+    ) -> usize;
 }
 
 #[repr(C)]
@@ -382,6 +396,25 @@ pub struct DeviceTold {
     pub device: Device,
 }
 
+/// How far a session has come.
+#[repr(C)]
+#[derive(Clone, Copy, Debug, PartialEq)]
+pub struct State {
+    pub bench: Bench,
+    pub records: u64,
+    pub refused: u64,
+}
+
+/// After a block. Stops: 0 a whole record, 1 no record, 2 a record cut short, 3 no octets.
+#[repr(C)]
+#[derive(Clone, Copy, Debug, PartialEq)]
+pub struct FedTold {
+    pub state: State,
+    pub used: usize,
+    pub written: usize,
+    pub stop: u8,
+}
+
 // No exported function asks anything of the values it is given, so each call below needs only
 // references that hold, and a pointer and a length that come from one slice.
 
@@ -556,6 +589,19 @@ pub fn master(bench: &Bench, port: u8) -> MasterTold {
 
 pub fn device(bench: &Bench, port: u8) -> DeviceTold {
     unsafe { whakelouna_device(*bench, port) }
+}
+
+pub fn session_start() -> State {
+    unsafe { whakelouna_session_start() }
+}
+
+pub fn session_feed(state: &State, octets: &[u8], out: &mut [u8]) -> FedTold {
+    let (start, length) = (octets.as_ptr(), octets.len());
+    unsafe { whakelouna_session_feed(*state, start, length, out.as_mut_ptr(), out.len()) }
+}
+
+pub fn session_finish(state: &State, some: bool, out: &mut [u8]) -> usize {
+    unsafe { whakelouna_session_finish(*state, some, out.as_mut_ptr(), out.len()) }
 }
 
 /// The two signature tables.

@@ -8,9 +8,12 @@ use crate::model::session::{first_record, HEAD, MARK};
 use crate::model::spdu::{Direction, Format, Values};
 use crate::random::Random;
 
-/// A session of so many records, most of them taken, at a few ports. Counts follow those of the model.
+/// A session of so many records, most of them taken, at two ports or at all. Counts follow those of the model.
 pub fn session(random: &mut Random, records: usize) -> Vec<u8> {
-    let ports = [1 + random.below(8) as u8, 1 + random.below(8) as u8];
+    let ports = match random.below(8) {
+        0 => (1..=8).collect(),
+        _ => vec![1 + random.below(8) as u8, 1 + random.below(8) as u8],
+    };
     let mut writer = Writer { random, ports, ends: Ends::new(), octets: Vec::new() };
     for _ in 0..records {
         writer.any_record();
@@ -34,7 +37,7 @@ pub fn long_session(random: &mut Random) -> Vec<u8> {
 struct Writer<'a> {
     random: &'a mut Random,
     /// The ports that most records are for.
-    ports: [u8; 2],
+    ports: Vec<u8>,
     ends: Ends,
     octets: Vec<u8>,
 }
@@ -50,7 +53,7 @@ impl Writer<'_> {
         let port = match self.random.below(60) {
             0 => self.random.octet(),
             1..=4 => 1 + self.random.below(8) as u8,
-            _ => self.ports[self.random.below(2)],
+            _ => self.ports[self.random.below(self.ports.len())],
         };
         let at = self.reading(port);
         let running = self.format(port).is_some();
@@ -277,6 +280,24 @@ pub fn damage(random: &mut Random, session: &mut Vec<u8>) {
             let (port, at) = (random.octet(), random.number() as u32);
             session.extend(record(kind, port, at, &octets));
         }
+    }
+}
+
+/// Adds one time to all readings, so that one of them is 0 and the clock has wrapped before it.
+pub fn move_clock(random: &mut Random, session: &mut [u8]) {
+    let mut starts = starts(session);
+    starts.pop();
+    if starts.is_empty() {
+        return;
+    }
+    let clock = |start: usize| start + 4..start + 8;
+    let reading = |session: &[u8], start| {
+        u32::from_be_bytes(session[clock(start)].try_into().expect("four octets"))
+    };
+    let zero = reading(session, starts[random.below(starts.len())]);
+    for start in starts {
+        let moved = reading(session, start).wrapping_sub(zero);
+        session[clock(start)].copy_from_slice(&moved.to_be_bytes());
     }
 }
 

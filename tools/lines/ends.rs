@@ -6,7 +6,7 @@ use crate::model::session::{call, first_record, safe_values, Record, PARAMETERS,
 use crate::model::spdu::Direction;
 
 /// The rows of 000 Table 38 that a call can take, those of the watchdog first.
-const ROWS: [usize; 7] = [8, 14, 4, 7, 11, 12, 13];
+pub const ROWS: [usize; 7] = [8, 14, 4, 7, 11, 12, 13];
 
 pub struct Ends {
     bench: BenchModel,
