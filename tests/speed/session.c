@@ -1,6 +1,7 @@
 // The session program (document 01) in plain C, as one would write it for the job: static tables, one pass over standard input. What
-// `portbench`'s speed is held to. Of a port it keeps what its lines need: no bins and no sum; no setSD_C, which only stops release; and
-// no FS-Device, since no record of a session reaches that end.
+// `portbench`'s speed is held to. Of a port it keeps what its lines need: no bins and no sum; no signal that only says what is released; and
+// no FS-Device, since no record of a session reaches that end. With WHOLE_PORT it keeps bins, sum and every variable of 000 Table 38, as
+// `portbench` does.
 
 #include <stdbool.h>
 #include <stdint.h>
@@ -21,6 +22,11 @@ struct port {
     uint8_t mode, length, state, MCount, carried, awaited;
     uint16_t w, lowest, highest;
     uint32_t MTimer, sample, total;
+#ifdef WHOLE_PORT
+    bool setSD, SDset_S, ChFAckReq, ChFAckReq_S, setSD_C, released;
+    uint32_t bins[32];
+    uint64_t sum;
+#endif
 };
 
 static struct port ports[8];
@@ -87,6 +93,10 @@ static int parameters(uint8_t port, uint32_t at, const uint8_t *b, int length)
             .state = 2,
             .w = (uint16_t)number(b + 27, 2),
             .sample = at,
+#ifdef WHOLE_PORT
+            .setSD = true,
+            .SDset_S = true,
+#endif
         };
     return answer;
 }
@@ -102,6 +112,20 @@ static void send_count(struct port *p, uint8_t count, uint32_t at)
     p->runs = true;
 }
 
+// Release, or not, and the requests to acknowledge that a row raises or clears: the rest of its action.
+static void signal(struct port *p, bool release, bool SDset, int request)
+{
+#ifdef WHOLE_PORT
+    p->released = release && !SDset && !p->setSD_C;
+    p->SDset_S = !p->released;
+    p->setSD = !release || p->setSD_C;
+    if (request >= 0)
+        p->ChFAckReq = p->ChFAckReq_S = request;
+#else
+    (void)p, (void)release, (void)SDset, (void)request;
+#endif
+}
+
 // T8, T14
 static void judge_watchdog(struct port *p, uint32_t at)
 {
@@ -109,6 +133,7 @@ static void judge_watchdog(struct port *p, uint32_t at)
         return;
     if (p->state == 7)
         p->ChFAck_C_e = false;
+    signal(p, false, true, p->state == 7 ? 0 : -1);
     p->state = 7;
     send_count(p, 0, at);
 }
@@ -141,6 +166,10 @@ static void tally(struct port *p, uint32_t t)
     if (p->total == 0 || t > p->highest)
         p->highest = (uint16_t)t;
     p->total++;
+#ifdef WHOLE_PORT
+    p->sum += t;
+    p->bins[t * 32 / (p->w + 1u)]++;
+#endif
 }
 
 // T3, T6 and T10, then T4, T7, T11, T12 or T13
@@ -162,15 +191,21 @@ static void take_response(struct port *p, uint8_t port, uint32_t at, const uint8
     if (passes && !old)
         tally(p, at - p->sample);
     bool faults = !passes || status & 3;
-    if (p->state != 7)
+    if (p->state != 7) {
+        signal(p, !faults, status & 4, -1);
         p->state = faults ? 7 : 5;
-    else if (faults)
+    } else if (faults) {
+        signal(p, false, true, 0);
         p->ChFAck_C_e = false;
-    else if (p->ChFAck_C && p->ChFAck_C_e) {
+    } else if (p->ChFAck_C && p->ChFAck_C_e) {
+        signal(p, true, status & 4, 0);
         p->ChFAck_C_e = false;
         p->state = 5;
-    } else if (!p->ChFAck_C)
-        p->ChFAck_C_e = true;
+    } else {
+        signal(p, false, true, 1);
+        if (!p->ChFAck_C)
+            p->ChFAck_C_e = true;
+    }
     send_count(p, p->MCount == 7 ? 1 : p->MCount + 1, at);
 }
 
@@ -188,8 +223,12 @@ static int happening(uint8_t kind, uint8_t port, uint32_t at, const uint8_t *oct
     judge_watchdog(p, at);
     if (kind == SPDU)
         take_response(p, port, at, octets);
-    if (kind == OPERATOR)
+    if (kind == OPERATOR) {
         p->ChFAck_C = octets[0] & 2;
+#ifdef WHOLE_PORT
+        p->setSD_C = octets[0] & 1;
+#endif
+    }
     return TAKEN;
 }
 

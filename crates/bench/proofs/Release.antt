@@ -59,11 +59,6 @@ isNone None = true
 isNone Open = false
 isNone Asked = false
 
-isAsked : Fault → Bool
-isAsked None = false
-isAsked Open = false
-isAsked Asked = true
-
 -- how the FS-Master and the acknowledgement stand to each other
 record Phase (m : Master) (s : Fault) : Type 0 where
   away : eqb (m .state) 7 ≡ false → s ≡ None

@@ -32,6 +32,7 @@ use Rattle.session.specs.Run.{
   lineRoom,
   fedOf,
 }
+use Rattle.session.specs.Blocks.{InBlocks, none, block, together}
 use Rattle.session.proofs.Form.{at-kept, whole-kept, bad-kept, bad-some, tests-of, whole-fits}
 use Rattle.session.proofs.Link.{no-record, no-rest, first-record, first-rest}
 
@@ -96,17 +97,6 @@ told-append st [] rs₂ = refl
 told-append st (e ∷ rs) rs₂ =
     ap (λ (l : List ℕ). lineOf st e ++ l) (told-append (applied st e) rs rs₂)
     ∙ sym (append-assoc (lineOf st e) (told (applied st e) rs) (told (ran (applied st e) rs) rs₂))
-
--- Calls of `feed` one after the other, each with a block behind what the one before it left, and with room for n lines. A call that was out of
--- room is followed by one with an empty block.
-pub data InBlocks : List (List ℕ) → State → List ℕ → State → List ℕ → List ℕ → Type 0 where
-  none : {st : State} {r : List ℕ} → InBlocks [] st r st r []
-  block : (n : ℕ) {b r r₂ o : List ℕ} {bs : List (List ℕ)} {st st₂ : State}
-      → InBlocks bs (ran st (recordsOf n (r ++ b))) (restOf n (r ++ b)) st₂ r₂ o → InBlocks (b ∷ bs) st r st₂ r₂ (told st (recordsOf n (r ++ b)) ++ o)
-
-abbrev pub together : List (List ℕ) → List ℕ
-together [] = []
-together (b ∷ bs) = b ++ together bs
 
 -- the records that the blocks hold
 pub record Held (s r : List ℕ) (st st₂ : State) (o : List ℕ) : Type 0 where

@@ -1,5 +1,6 @@
 pub mod Format
 pub mod Text
 pub mod Run
+pub mod Blocks
 pub mod Acts
 pub mod Columns

@@ -1,3 +1,4 @@
+-- `session::read::octet_holds` meets its contract. Assumes nothing.
 use borrow.Author.Tests.{lt-ltb, le-ltb, le-leb, lt-leb, eq-eqb, ne-eqb}
 use mathlib.Core.Path.{sym}
 use native.Mathlib.Omega.{arith}
@@ -6,26 +7,17 @@ use Rattle.session.proofs.Form.{four, others}
 use borrow.Author.Needs.{needs}
 use Rattle.session.proofs.read.octet_holds.Statement.{statement}
 use Rattle.session.proofs.read.octet_holds.Tie as tie
-use Rattle.session.proofs.read.octet_holds.Reads as reads
-use Rattle.session.proofs.read.octet_holds.Lts as lts
 
--- src/read.rt:94:8
-shared-slice-read-if1 : tie.Need-shared-slice-read-if1
-shared-slice-read-if1 c = search needs
-
--- src/read.rt:94:20
 shared-slice-read-result : tie.Need-shared-slice-read-result
 shared-slice-read-result c =
     let start = c .before .before .before in
     omega (arith, four (now (start .args .s)) (start .pre .1) (c .before .if1 .taken))
 
--- src/read.rt:89:1
 returns : tie.Need-returns
 returns c =
     let start = c .before .before .before in
     simp (c .before .if1 .taken)
 
--- src/read.rt:89:1
 returns-2 : tie.Need-returns-2
 returns-2 c =
     let start = c .before .before in
@@ -33,4 +25,4 @@ returns-2 c =
 
 pub octet-holds-spec : {M : Type 1} → statement M
 octet-holds-spec =
-    tie.close (tie.spec shared-slice-read-if1 shared-slice-read-result returns returns-2)
+    tie.close (tie.spec (λ c. search needs) shared-slice-read-result returns returns-2)

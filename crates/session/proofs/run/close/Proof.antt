@@ -1,37 +1,11 @@
+-- `session::run::close` meets its contract. Assumes nothing.
 use native.Mathlib.Omega.{arith}
 use Rattle.session.proofs.Written.{then, none, from-front}
 use Rattle.session.specs.Run.{closing}
 use borrow.Author.Needs.{needs}
 use Rattle.session.proofs.run.close.Statement.{statement}
 use Rattle.session.proofs.run.close.Tie as tie
-use Rattle.session.proofs.run.close.Reads as reads
-use Rattle.session.proofs.run.close.Lts as lts
-use Rattle.session.proofs.run.refused_at_end.Reads as refused-at-end-reads
-use Rattle.session.proofs.run.thirteen.Reads as thirteen-reads
-use Rattle.session.proofs.text.port_lines.Reads as port-lines-reads
-use Rattle.session.proofs.text.summary_line.Reads as summary-line-reads
 
--- src/run.rt:305:9
-thirteen-requires : tie.Need-thirteen-requires
-thirteen-requires c κs = search needs
-
--- src/run.rt:306:9
-refused-at-end-requires : tie.Need-refused-at-end-requires
-refused-at-end-requires c κs = search needs
-
--- src/run.rt:307:9
-summary-line-requires : tie.Need-summary-line-requires
-summary-line-requires c κs = search needs
-
--- src/run.rt:308:5
-port-lines-requires : tie.Need-port-lines-requires
-port-lines-requires c κs = search needs
-
--- src/run.rt:301:1
-same-length : tie.Need-same-length
-same-length c = search needs
-
--- src/run.rt:301:1
 returns : tie.Need-returns
 unfolding closing
 returns c =
@@ -45,9 +19,9 @@ pub close-spec : {M : Type 1} → statement M
 close-spec =
     tie.close
     (tie.spec
-    thirteen-requires
-    refused-at-end-requires
-    summary-line-requires
-    port-lines-requires
-    same-length
+    (λ c κs. search needs)
+    (λ c κs. search needs)
+    (λ c κs. search needs)
+    (λ c κs. search needs)
+    (λ c. search needs)
     returns)

@@ -1,3 +1,4 @@
+-- `session::run::finish` meets its contract. Assumes nothing.
 use Prim.Native.Nat.{_≤_}
 use mathlib.Core.Path.{refl, sym}
 use lib.ListN.{length}
@@ -9,25 +10,12 @@ use Rattle.session.specs.Run.{finishText}
 use borrow.Author.Needs.{needs}
 use Rattle.session.proofs.run.finish.Statement.{statement}
 use Rattle.session.proofs.run.finish.Tie as tie
-use Rattle.session.proofs.run.finish.Reads as reads
-use Rattle.session.proofs.run.finish.Lts as lts
-use Rattle.session.proofs.run.close.Reads as close-reads
 
--- src/run.rt:318:9
 returns : tie.Need-returns
 unfolding finishText
 returns c =
     let e = lt-ltb _ _ (c .if1 .taken) in (rw e, (rw e, (omega arith, refl)))
 
--- src/run.rt:320:5
-close-requires : tie.Need-close-requires
-close-requires c κs = search needs
-
--- src/run.rt:313:1
-same-length : tie.Need-same-length
-same-length c = search needs
-
--- src/run.rt:313:1
 returns-2 : tie.Need-returns-2
 unfolding finishText
 returns-2 c =
@@ -38,4 +26,4 @@ returns-2 c =
     (rw e (omega (arith, w .end)), (rw e (from-front w), (b, sym (length-take-le _ _ b))))
 
 pub finish-spec : {M : Type 1} → statement M
-finish-spec = tie.close (tie.spec returns close-requires same-length returns-2)
+finish-spec = tie.close (tie.spec returns (λ c κs. search needs) (λ c. search needs) returns-2)

@@ -1,43 +1,11 @@
+-- `session::text::ends` meets its contract. Assumes nothing.
 use native.Mathlib.Omega.{arith}
 use Rattle.session.specs.Text.{endsText}
 use Rattle.session.proofs.Written.{then}
 use borrow.Author.Needs.{needs}
 use Rattle.session.proofs.text.ends.Statement.{statement}
 use Rattle.session.proofs.text.ends.Tie as tie
-use Rattle.session.proofs.text.ends.Reads as reads
-use Rattle.session.proofs.text.ends.Lts as lts
-use Rattle.session.proofs.text.put.Reads as put-reads
-use Rattle.session.proofs.text.put_number.Reads as put-number-reads
 
--- src/text.rt:60:26
-slice-aggregate-put : tie.Need-slice-aggregate-put
-slice-aggregate-put c = search needs
-
--- src/text.rt:60:9
-put-requires : tie.Need-put-requires
-put-requires c κs = search needs
-
--- src/text.rt:61:9
-put-number-requires : tie.Need-put-number-requires
-put-number-requires c κs = search needs
-
--- src/text.rt:62:25
-slice-aggregate-put-2 : tie.Need-slice-aggregate-put-2
-slice-aggregate-put-2 c = search needs
-
--- src/text.rt:62:9
-put-requires-2 : tie.Need-put-requires-2
-put-requires-2 c κs = search needs
-
--- src/text.rt:63:5
-put-number-requires-2 : tie.Need-put-number-requires-2
-put-number-requires-2 c κs = search needs
-
--- src/text.rt:55:1
-same-length : tie.Need-same-length
-same-length c = search needs
-
--- src/text.rt:55:1
 returns : tie.Need-returns
 unfolding endsText
 returns c =
@@ -51,11 +19,11 @@ pub ends-spec : {M : Type 1} → statement M
 ends-spec =
     tie.close
     (tie.spec
-    slice-aggregate-put
-    put-requires
-    put-number-requires
-    slice-aggregate-put-2
-    put-requires-2
-    put-number-requires-2
-    same-length
+    (λ c. search needs)
+    (λ c κs. search needs)
+    (λ c κs. search needs)
+    (λ c. search needs)
+    (λ c κs. search needs)
+    (λ c κs. search needs)
+    (λ c. search needs)
     returns)

@@ -1,3 +1,4 @@
+-- `session::text::port_lines` meets its contract. Assumes nothing.
 use borrow.Author.Needs.{needs}
 use native.Mathlib.Omega.{arith}
 use native.Mathlib.Numerals.{add-one}
@@ -12,9 +13,6 @@ use Rattle.session.specs.Text.{Written, portLines, lineOfPort}
 use Rattle.session.proofs.Written.{then, none}
 use Rattle.session.proofs.text.port_lines.Statement.{statement}
 use Rattle.session.proofs.text.port_lines.Tie as tie
-use Rattle.session.proofs.text.port_lines.Reads as reads
-use Rattle.session.proofs.text.port_lines.Lts as lts
-use Rattle.session.proofs.text.line_of_port.Reads as line-of-port-reads
 
 -- one port more
 grown : (b : Bench) (i : ℕ) → i < 8 → {b₀ b₁ b₂ : List ℕ} {at end r : ℕ} → Written b₀ at (portLines b i) end b₁
@@ -36,36 +34,10 @@ Inv-loop buf₀ at b end₀ i₀ buf end i =
 abbrev μ-loop : tie.MeasureT-loop
 μ-loop buf₀ at b end₀ i₀ buf end i = 8 - i
 
--- src/text.rt:114:5
 loop-holds : tie.Need-loop-holds Inv-loop μ-loop
 unfolding portLines
 loop-holds c = (refl, omega arith, omega arith, none _ _)
 
--- src/text.rt:115:17
-mul-p : tie.Need-mul-p Inv-loop μ-loop
-mul-p c = search needs
-
--- src/text.rt:115:17
-element-copy-out-p : tie.Need-element-copy-out-p Inv-loop μ-loop
-element-copy-out-p c = search needs
-
--- src/text.rt:116:9
-add-i : tie.Need-add-i Inv-loop μ-loop
-add-i c = search needs
-
--- src/text.rt:117:38
-cast-line-of-port : tie.Need-cast-line-of-port Inv-loop μ-loop
-cast-line-of-port c = search needs
-
--- src/text.rt:117:9
-line-of-port-requires : tie.Need-line-of-port-requires Inv-loop μ-loop
-line-of-port-requires c κs = search needs
-
--- src/text.rt:114:5
-loop-less : tie.Need-loop-less Inv-loop μ-loop
-loop-less c = search needs
-
--- src/text.rt:114:5
 loop-again : tie.Need-loop-again Inv-loop μ-loop
 unfolding noPort
 loop-again c =
@@ -74,11 +46,6 @@ loop-again c =
     let a = e .before .before .before .before .before .before .args in
     (omega (arith, e .line-of-port .kept, l .inv .0), omega arith, omega (arith, e .line-of-port .ensures .1, l .inv .2), grown (a .t3) (l .i) (omega arith) (l .inv .3) (e .line-of-port .ensures .0))
 
--- src/text.rt:107:1
-same-length : tie.Need-same-length Inv-loop μ-loop
-same-length c = search needs
-
--- src/text.rt:107:1
 returns : tie.Need-returns Inv-loop μ-loop
 returns c =
     let l = c .before .loop in
@@ -93,12 +60,12 @@ port-lines-spec =
     Inv-loop
     μ-loop
     loop-holds
-    mul-p
-    element-copy-out-p
-    add-i
-    cast-line-of-port
-    line-of-port-requires
-    loop-less
+    (λ c. search needs)
+    (λ c. search needs)
+    (λ c. search needs)
+    (λ c. search needs)
+    (λ c κs. search needs)
+    (λ c. search needs)
     loop-again
-    same-length
+    (λ c. search needs)
     returns)

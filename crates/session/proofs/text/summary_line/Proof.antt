@@ -1,51 +1,11 @@
+-- `session::text::summary_line` meets its contract. Assumes nothing.
 use native.Mathlib.Omega.{arith}
 use Rattle.session.specs.Text.{summaryLine}
 use Rattle.session.proofs.Written.{then}
 use borrow.Author.Needs.{needs}
 use Rattle.session.proofs.text.summary_line.Statement.{statement}
 use Rattle.session.proofs.text.summary_line.Tie as tie
-use Rattle.session.proofs.text.summary_line.Reads as reads
-use Rattle.session.proofs.text.summary_line.Lts as lts
-use Rattle.session.proofs.text.put.Reads as put-reads
-use Rattle.session.proofs.text.put_number.Reads as put-number-reads
 
--- src/text.rt:48:26
-slice-aggregate-put : tie.Need-slice-aggregate-put
-slice-aggregate-put c = search needs
-
--- src/text.rt:48:9
-put-requires : tie.Need-put-requires
-put-requires c κs = search needs
-
--- src/text.rt:49:9
-put-number-requires : tie.Need-put-number-requires
-put-number-requires c κs = search needs
-
--- src/text.rt:50:25
-slice-aggregate-put-2 : tie.Need-slice-aggregate-put-2
-slice-aggregate-put-2 c = search needs
-
--- src/text.rt:50:9
-put-requires-2 : tie.Need-put-requires-2
-put-requires-2 c κs = search needs
-
--- src/text.rt:51:9
-put-number-requires-2 : tie.Need-put-number-requires-2
-put-number-requires-2 c κs = search needs
-
--- src/text.rt:52:17
-slice-aggregate-put-3 : tie.Need-slice-aggregate-put-3
-slice-aggregate-put-3 c = search needs
-
--- src/text.rt:52:5
-put-requires-3 : tie.Need-put-requires-3
-put-requires-3 c κs = search needs
-
--- src/text.rt:43:1
-same-length : tie.Need-same-length
-same-length c = search needs
-
--- src/text.rt:43:1
 returns : tie.Need-returns
 unfolding summaryLine
 returns c =
@@ -60,13 +20,13 @@ pub summary-line-spec : {M : Type 1} → statement M
 summary-line-spec =
     tie.close
     (tie.spec
-    slice-aggregate-put
-    put-requires
-    put-number-requires
-    slice-aggregate-put-2
-    put-requires-2
-    put-number-requires-2
-    slice-aggregate-put-3
-    put-requires-3
-    same-length
+    (λ c. search needs)
+    (λ c κs. search needs)
+    (λ c κs. search needs)
+    (λ c. search needs)
+    (λ c κs. search needs)
+    (λ c κs. search needs)
+    (λ c. search needs)
+    (λ c κs. search needs)
+    (λ c. search needs)
     returns)
