@@ -104,7 +104,7 @@ unfoldable pub withPort : Bench → ℕ → Port → Bench
 withPort b port p = cond (outside 1 8 port) b (record { ports = set (b .ports) (port - 1) p })
 
 -- The reading of the call in which the count that a response answers was first put in an outgoing SPDU: the start that is kept, or this call's
--- reading where the watchdog's row, T8 or T14, gave MCount another value than 0 (R17).
+-- reading where the watchdog's row, T8 or T14, made MCount 0 and it was not (R17).
 unfoldable pub sentAt : Master → Row → ℕ → ℕ
 sentAt m watchdog at = cond (eqb (rowNumberOf watchdog) 0 || eqb (m .MCount) 0) (m .sample) at
 

@@ -23,7 +23,7 @@ use spdu::Request;
 use spdu::Response;
 
 // A port with no accepted parameters.
-pub fn new_port() -> Port
+pub(crate) fn new_port() -> Port
     ensures { λ r. ⌜ r ≡ ports.newPort ⌝ }
 {
     Port {
@@ -133,16 +133,19 @@ fn silent(answer: Answer) -> Reply
     }
 }
 
+fn unchanged(p: Port, reply: Reply) -> PortAfter
+    ensures { λ r. ⌜ r ≡ record { port = p; reply = reply } ⌝ }
+{
+    PortAfter { port: p, reply }
+}
+
 fn settled(p: Port, answer: Answer, happening: Happening) -> PortAfter
     ensures { λ r. ⌜ r ≡ calls.settled p answer happening ⌝ }
 {
     if answer::is_taken(answer) {
         step(p, happening)
     } else {
-        PortAfter {
-            port: p,
-            reply: silent(answer),
-        }
+        unchanged(p, silent(answer))
     }
 }
 
@@ -176,7 +179,7 @@ fn safe_out_hold(params: Params, safe: &[u8]) -> bool
 }
 
 // An SPDU received as FS-Master, as it was read.
-pub fn response_at(port: u8, p: Port, at: u32, f: Response, safe: &[u8]) -> PortAfter
+pub(crate) fn response_at(port: u8, p: Port, at: u32, f: Response, safe: &[u8]) -> PortAfter
     ensures { λ r. ⌜ r ≡ calls.responseAt port p at f (now (safe .entry)) ⌝ }
 {
     let a = call_answer(port, p);
@@ -190,7 +193,7 @@ pub fn response_at(port: u8, p: Port, at: u32, f: Response, safe: &[u8]) -> Port
 }
 
 // An SPDU received as FS-Device, as it was read.
-pub fn request_at(port: u8, p: Port, at: u32, q: Request, safe: &[u8]) -> PortAfter
+pub(crate) fn request_at(port: u8, p: Port, at: u32, q: Request, safe: &[u8]) -> PortAfter
     ensures { λ r. ⌜ r ≡ calls.requestAt port p at q (now (safe .entry)) ⌝ }
 {
     let a = call_answer(port, p);
@@ -204,7 +207,7 @@ pub fn request_at(port: u8, p: Port, at: u32, q: Request, safe: &[u8]) -> PortAf
 }
 
 // A clock reading; the safe values of both ends are lent.
-pub fn clock_at(port: u8, p: Port, at: u32, safe_in: &[u8], safe_out: &[u8]) -> PortAfter
+pub(crate) fn clock_at(port: u8, p: Port, at: u32, safe_in: &[u8], safe_out: &[u8]) -> PortAfter
     ensures { λ r. ⌜ r ≡ calls.clockAt port p at (now («safe_in» .entry)) (now («safe_out» .entry)) ⌝ }
 {
     let a = call_answer(port, p);
@@ -213,7 +216,7 @@ pub fn clock_at(port: u8, p: Port, at: u32, safe_in: &[u8], safe_out: &[u8]) -> 
 }
 
 // Operator signals.
-pub fn operator_at(
+pub(crate) fn operator_at(
     port: u8,
     p: Port,
     at: u32,
@@ -241,15 +244,12 @@ fn parameters_as(p: Port, at: u32, judged: Judged) -> PortAfter
             reply: silent(answer),
         }
     } else {
-        PortAfter {
-            port: p,
-            reply: silent(answer),
-        }
+        unchanged(p, silent(answer))
     }
 }
 
 // A parameter block of any length.
-pub fn parameters_at(port: u8, p: Port, at: u32, octets: &[u8]) -> PortAfter
+pub(crate) fn parameters_at(port: u8, p: Port, at: u32, octets: &[u8]) -> PortAfter
     ensures { λ r. ⌜ r ≡ calls.parametersAt port p at (now (octets .entry)) ⌝ }
 {
     parameters_as(p, at, block::judge(octets, port))

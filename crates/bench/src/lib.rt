@@ -6,14 +6,8 @@ mod images;
 mod shown;
 
 use answer::Answer;
-pub use at_port::clock_at;
 pub use at_port::move_master;
 pub use at_port::new_bench;
-pub use at_port::new_port;
-pub use at_port::operator_at;
-pub use at_port::parameters_at;
-pub use at_port::request_at;
-pub use at_port::response_at;
 use block::Params;
 pub use calls::clock;
 pub use calls::operator;
@@ -51,7 +45,7 @@ pub struct Bench {
     pub ports: [Port; 8],
 }
 
-// What a happening does at an FS-Master. `passes`: a response has come that passes and is the first for its count, t ms after that count was
+// What a happening does at an FS-Master. `passes`: a response has come that passes and is not old, t ms after the count that it answers was
 // first sent.
 pub struct Moved {
     pub master: Master,

@@ -1,4 +1,3 @@
-use borrow.Author.Tests.{lt-ltb, le-ltb, le-leb, lt-leb, eq-eqb, ne-eqb}
 use Rattle.bench.specs.Calls.{parametersAs}
 use borrow.Author.Needs.{needs}
 use Rattle.bench.proofs.at_port.parameters_as.Statement.{statement}
@@ -10,12 +9,13 @@ returns c = simp (simp (c .before .before .before .is-taken .ensures) at (c .bef
 
 returns-2 : tie.Need-returns-2
 unfolding parametersAs
-returns-2 c = simp (simp (c .before .before .is-taken .ensures) at (c .before .if1 .left), c .silent2 .ensures, c .before .before .is-taken .ensures)
+returns-2 c = simp (simp (c .before .before .before .is-taken .ensures) at (c .before .before .if1 .left), c .before .silent2 .ensures, c .unchanged .ensures)
 
 pub parameters-as-spec : {M : Type 1} → statement M
 parameters-as-spec =
     tie.close
     (tie.spec
+    (λ c κs. search needs)
     (λ c κs. search needs)
     (λ c κs. search needs)
     (λ c κs. search needs)

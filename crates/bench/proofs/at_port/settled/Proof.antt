@@ -1,4 +1,3 @@
-use borrow.Author.Tests.{lt-ltb, le-ltb, le-leb, lt-leb, eq-eqb, ne-eqb}
 use Rattle.bench.specs.Calls.{settled}
 use borrow.Author.Needs.{needs}
 use Rattle.bench.proofs.at_port.settled.Statement.{statement}
@@ -10,8 +9,8 @@ returns c = simp (simp (c .before .before .is-taken .ensures) at (c .before .if1
 
 returns-2 : tie.Need-returns-2
 unfolding settled
-returns-2 c = simp (simp (c .before .before .is-taken .ensures) at (c .before .if1 .left), c .silent .ensures, c .before .before .is-taken .ensures)
+returns-2 c = simp (simp (c .before .before .before .is-taken .ensures) at (c .before .before .if1 .left), c .before .silent .ensures, c .unchanged .ensures)
 
 pub settled-spec : {M : Type 1} → statement M
 settled-spec =
-    tie.close (tie.spec (λ c κs. search needs) (λ c κs. search needs) (λ c κs. search needs) returns returns-2)
+    tie.close (tie.spec (λ c κs. search needs) (λ c κs. search needs) (λ c κs. search needs) (λ c κs. search needs) returns returns-2)
