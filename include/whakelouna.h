@@ -180,8 +180,9 @@ struct whakelouna_bench {
     struct whakelouna_port ports[8];
 };
 
-// The number and the offset of 01's answer; for each end what is handed on (0 fresh octets, 1 release goes on, 2 safe values, 3 nothing) and
-// whether it releases after the call. In a refusal and in a parameter block: nothing, and not released.
+// The number and the offset of 01's answer; for each end what is handed on and whether it releases after the call. Handed on are: 0 the process
+// octets of the SPDU that came, all but its last 4 with FSP_ProtMode 1, all but its last 6 with 2; 1 nothing, as release goes on; 2 the safe
+// values lent; 3 nothing. In a refusal and in a parameter block: 3, and not released.
 struct whakelouna_reply {
     uint8_t number, offset, master, device;
     bool master_releases, device_releases;

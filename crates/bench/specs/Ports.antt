@@ -26,7 +26,6 @@ use Rattle.bench.specs.declared.Bench.{Bench}
 use Rattle.bench.specs.declared.Moved.{Moved}
 use Rattle.bench.specs.declared.Reply.{Reply}
 use Rattle.bench.specs.declared.PortAfter.{PortAfter}
-use Rattle.bench.specs.declared.BenchAfter.{BenchAfter}
 
 -- no accepted parameters
 unfoldable pub newPort : Port

@@ -9,7 +9,7 @@ use mathlib.Core.Bool.{Bool, true, false, cond, not, _&&_, _||_}
 use lib.Dec.{eqb}
 use Rattle.scl.specs.Time.{expiredOf}
 use Rattle.scl.specs.Counts.{countAfter, inverted}
-use Rattle.scl.specs.Happenings.{checkOf, isFailure}
+use Rattle.scl.specs.Happenings.{checkOf}
 use Rattle.scl.specs.declared.Check.{Check}
 use Rattle.spdu.specs.declared.Request.{Request}
 use Rattle.fs_device.specs.declared.Device.{Device}
