@@ -10,11 +10,11 @@ returns : tie.Need-returns
 unfolding lineOfPort
 returns c =
     let e = c .before .before in
-    (rw (e .before .before .if1 .taken) (e .port-line .ensures .0), e .port-line .ensures .1)
+    (simp (e .before .before .if1 .taken) (e .port-line .ensures .0), e .port-line .ensures .1)
 
 returns-2 : tie.Need-returns-2
 unfolding lineOfPort
-returns-2 c = (rw (c .if1 .left) (none _ _), omega arith)
+returns-2 c = (simp (c .if1 .left) (none _ _), omega arith)
 
 pub line-of-port-spec : {M : Type 1} → statement M
 line-of-port-spec = tie.close (tie.spec (λ c κs. search needs) (λ c. search needs) returns returns-2)
