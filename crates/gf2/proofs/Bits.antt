@@ -1,7 +1,7 @@
 -- The bits of a number: of sums, of shifts, of its parts; and they give the number back.
 -- Assumes nothing.
 use mathlib.Core.Path.{_≡_, refl, sym, ap, ap₂, _∙_}
-use mathlib.Core.Bool.{Bool, true, false, cond}
+use mathlib.Core.Bool.{Bool, false, cond}
 use mathlib.Core.List.{List, [], _∷_, _++_}
 use Prim.Native.Nat.{ℕ, zero, suc, _+_, _*_, _^_, _/_, _%_, _<_}
 use native.Mathlib.Nat.{mod-one, mod-eq-of-lt, zero-div, mul-div-mul-right, mul-mod-left, zero-add, suc-add, add-comm, pow-suc}

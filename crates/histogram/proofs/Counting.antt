@@ -7,7 +7,7 @@ use native.Mathlib.Nat.{mul-le-mul-left}
 use native.Mathlib.Omega.{arith}
 use borrow.Author.Tests.{eq-eqb, ne-eqb, eqb-true, eqb-false, leb-true, leb-false}
 use lib.Dec.{eqb, leb}
-use lib.ListN.{length, take, getD, set, length-append, length-take, length-set, getD-replicate}
+use lib.ListN.{length, getD, set, length-append, length-take, length-set, getD-replicate}
 use lib.Seq.{append-snoc, take-all, take-append-le, take-nil, getD-set-same, getD-set-other}
 use Rattle.histogram.specs.declared.Histogram.{Histogram}
 use Rattle.histogram.specs.Samples.{binCount, binOf, Within, none, more, inBin, Counts, limit, Holds, Fits}

@@ -1,6 +1,6 @@
 -- The register as a number meets `gf2`'s register as a list of bits: a turn of the one is a step of the other, so the bits of a signature are
 -- the register after the octets' bits. Assumes nothing.
-use mathlib.Core.Path.{_≡_, refl, sym, ap, ap₂, _∙_}
+use mathlib.Core.Path.{_≡_, refl, sym, ap, _∙_}
 use mathlib.Core.Bool.{Bool, true, false, cond}
 use mathlib.Core.List.{List, [], _∷_}
 use Prim.Native.Nat.{ℕ, _*_, _/_, _%_, _^_, _<_}
@@ -9,7 +9,7 @@ use lib.Bits.{bitXor, xor-lt}
 use lib.Dec.{eqb}
 use lib.ListN.{length}
 use lib.Pow.{pow-pos}
-use Rattle.gf2.specs.Polynomial.{_⊻_, _⊕_, zeros, scale}
+use Rattle.gf2.specs.Polynomial.{_⊻_, _⊕_, scale}
 use Rattle.gf2.specs.Register.{top, shift, step, register}
 use Rattle.gf2.specs.Bits.{bits, octetBits}
 use Rattle.gf2.proofs.Sum.{sum-zeros, shift-length}
