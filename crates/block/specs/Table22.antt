@@ -8,7 +8,7 @@ use Rattle.block.specs.declared.Signatures.{Signatures}
 use Rattle.block.specs.declared.Block.{Block}
 use Rattle.block.specs.Octets.{unsigned8, unsigned16, unsigned32, offsets}
 
--- the elements that a port needs later
+-- the elements of an accepted block that a caller can be shown: all but the ID, the three signatures that are checked, and IO_DescVersion
 abbrev pub paramsOf : List ℕ → Params
 paramsOf s = record {
   PortMode = unsigned8 s 2;

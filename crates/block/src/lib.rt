@@ -8,8 +8,9 @@ mod octets;
 use answer::Answer;
 use answer::refuse;
 
-// What a port needs later of an accepted block, under 000's names. InputDataLength is n, OutputDataLength p, SPDUInLength m,
-// SPDUOutLength o, FSP_WatchdogTime W.
+// An accepted block as it stands, under 000's names: all but its ID, the three signatures that are checked, and IO_DescVersion. The layers above read
+// FSP_Port, FSP_ProtMode, FSP_WatchdogTime (W) and the four lengths: InputDataLength is n, OutputDataLength p, SPDUInLength m, SPDUOutLength o.
+// They read no other field; the others are kept so that a caller can be shown the accepted block.
 #[repr(C)]
 pub struct Params {
     pub PortMode: u8,
