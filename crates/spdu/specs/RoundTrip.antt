@@ -1,23 +1,43 @@
--- What is read back of an SPDU that was built, at the other end of the same parameters. Assumes nothing.
+-- What is read at the other end of the same parameters: of an SPDU that was built, and of the zeros before the first response. Assumes nothing.
 use Prim.Native.Nat.{ℕ, _%_}
-use mathlib.Core.Path.{_≡_}
 use mathlib.Core.Bool.{Bool, true, false}
+use lib.Dec.{eqb}
+use Rattle.block.specs.declared.Params.{Params}
 use Rattle.spdu.specs.declared.Request.{Request}
 use Rattle.spdu.specs.declared.Response.{Response}
 
-pub record RequestBack (mCount : ℕ) (setSD chFAckReq : Bool) (r : Request) : Type 0 where
-  pub count : r .MCount ≡ mCount % 8
-  pub safe : r .setSD ≡ setSD
-  pub request : r .ChFAckReq ≡ chFAckReq
-  pub port : r .«port_holds» ≡ true
-  pub signature : r .«signature_holds» ≡ true
-  pub not-zero : r .«all_zero» ≡ false
+abbrev pub requestBack : Params → ℕ → Bool → Bool → Request
+requestBack p mCount setSD chFAckReq = record {
+  length = p .SPDUOutLength;
+  MCount = mCount % 8;
+  setSD = setSD;
+  ChFAckReq = chFAckReq;
+  «port_holds» = true;
+  «signature_holds» = true;
+  «all_zero» = false;
+}
 
-pub record ResponseBack (dCount : ℕ) (sdSet dCommErr dTimeout : Bool) (r : Response) : Type 0 where
-  pub count : r .«DCount_i» ≡ dCount % 8
-  pub safe : r .SDset ≡ sdSet
-  pub error : r .DCommErr ≡ dCommErr
-  pub timeout : r .DTimeout ≡ dTimeout
-  pub port : r .«port_holds» ≡ true
-  pub signature : r .«signature_holds» ≡ true
-  pub not-zero : r .«all_zero» ≡ false
+abbrev pub responseBack : Params → ℕ → Bool → Bool → Bool → Response
+responseBack p «DCount_i» sdSet dCommErr dTimeout = record {
+  length = p .SPDUInLength;
+  «DCount_i» = «DCount_i» % 8;
+  SDset = sdSet;
+  DCommErr = dCommErr;
+  DTimeout = dTimeout;
+  «port_holds» = true;
+  «signature_holds» = true;
+  «all_zero» = false;
+}
+
+-- no signature is 0, so that of zeros does not hold
+abbrev pub zerosBack : Params → Response
+zerosBack p = record {
+  length = p .SPDUInLength;
+  «DCount_i» = 0;
+  SDset = false;
+  DCommErr = false;
+  DTimeout = false;
+  «port_holds» = eqb 0 (p .«FSP_Port»);
+  «signature_holds» = false;
+  «all_zero» = true;
+}
