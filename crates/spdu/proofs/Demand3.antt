@@ -83,6 +83,7 @@ module _ (mode : ℕ) (process : List ℕ) (port control : ℕ) where
   pub empty-passes : (es : List ℕ) → allZero es ≡ true → signatureHolds byBits mode (flippedSpdu mode process port control es) ≡ true
   empty-passes es h = rw (none (validSpdu mode process port control) es h) valid-passes
 
+  -- the same, the flips counted as bits
   pub none-passes : (es : List ℕ) → Octets es → ones (octetBits es) ≡ 0 → signatureHolds byBits mode (flippedSpdu mode process port control es) ≡ true
   none-passes es o h = empty-passes es (all-zero es o h)
 

@@ -10,5 +10,6 @@ pub mod Numbers
 pub mod Modes
 pub mod ReadBack
 pub mod Demand3
+pub mod Arrived
 pub mod Needed
 pub mod Back
