@@ -8,7 +8,7 @@ use native.Mathlib.Omega.{arith}
 use borrow.Author.Tests.{eqb-true, eqb-false, eq-eqb, ne-eqb}
 use lib.Dec.{eqb}
 use lib.ListN.{length, take, drop, replicate, length-replicate, drop-of-length-le}
-use lib.Seq.{length-take-le, take-length}
+use lib.Seq.{take-length}
 use Rattle.ranges.specs.Fields.{safetyOctets}
 use Rattle.block.specs.declared.Params.{Params}
 use Rattle.spdu.specs.Built.{controlOctet, statusOctet, spduWith, processSent, buffersHold, requestBuilt, responseBuilt}
@@ -77,10 +77,10 @@ module _ (sign : ℕ → List ℕ → ℕ) (p : Params) (process out : List ℕ)
       ∙ ap₂ (λ (l : List ℕ) (x : ℕ). spduWith sign mode l (p .«FSP_Port») x) s c
       ∙ ap (λ (b : Bool). cond b (spduWith sign mode (processSent setSD process) (p .«FSP_Port») (controlOctet mCount setSD chFAckReq)) out) (sym h)
 
-  pub response-built : (responded : Bool) (dCount : ℕ) (sdSet dCommErr dTimeout : Bool) {written : List ℕ}
+  pub response-built : (responded : Bool) («DCount_i» : ℕ) (sdSet dCommErr dTimeout : Bool) {written : List ℕ}
       → buffersHold mode (p .SPDUInLength) (length process) (length out) ≡ true
-      → written ≡ cond responded (spduWith sign mode process (p .«FSP_Port») (statusOctet dCount sdSet dCommErr dTimeout)) (replicate (length out) 0)
-      → written ≡ responseBuilt sign p responded dCount sdSet dCommErr dTimeout process out
-  response-built responded dCount sdSet dCommErr dTimeout h e =
+      → written ≡ cond responded (spduWith sign mode process (p .«FSP_Port») (statusOctet «DCount_i» sdSet dCommErr dTimeout)) (replicate (length out) 0)
+      → written ≡ responseBuilt sign p responded «DCount_i» sdSet dCommErr dTimeout process out
+  response-built responded «DCount_i» sdSet dCommErr dTimeout h e =
       e
-      ∙ ap (λ (b : Bool). cond b (cond responded (spduWith sign mode process (p .«FSP_Port») (statusOctet dCount sdSet dCommErr dTimeout)) (replicate (length out) 0)) out) (sym h)
+      ∙ ap (λ (b : Bool). cond b (cond responded (spduWith sign mode process (p .«FSP_Port») (statusOctet «DCount_i» sdSet dCommErr dTimeout)) (replicate (length out) 0)) out) (sym h)

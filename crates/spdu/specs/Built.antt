@@ -18,7 +18,7 @@ abbrev pub controlOctet : ℕ → Bool → Bool → ℕ
 controlOctet mCount setSD chFAckReq = mCount % 8 * 32 + bitIn setSD 2 + bitIn chFAckReq 1
 
 abbrev pub statusOctet : ℕ → Bool → Bool → Bool → ℕ
-statusOctet dCount sdSet dCommErr dTimeout = dCount % 8 * 32 + bitIn sdSet 4 + bitIn dCommErr 2 + bitIn dTimeout 1
+statusOctet «DCount_i» sdSet dCommErr dTimeout = «DCount_i» % 8 * 32 + bitIn sdSet 4 + bitIn dCommErr 2 + bitIn dTimeout 1
 
 -- a signature's octets, most significant first
 abbrev pub signatureOctets : ℕ → ℕ → List ℕ
@@ -53,7 +53,7 @@ requestBuilt sign p mCount setSD chFAckReq process out =
 
 -- the FS-Device's SPDU, of SPDUInLength octets; zeros until its first response (R23)
 abbrev pub responseBuilt : (ℕ → List ℕ → ℕ) → Params → Bool → ℕ → Bool → Bool → Bool → List ℕ → List ℕ → List ℕ
-responseBuilt sign p responded dCount sdSet dCommErr dTimeout process out =
+responseBuilt sign p responded «DCount_i» sdSet dCommErr dTimeout process out =
     let mode = p .«FSP_ProtMode» in
     cond (buffersHold mode (p .SPDUInLength) (length process) (length out))
-    (cond responded (spduWith sign mode process (p .«FSP_Port») (statusOctet dCount sdSet dCommErr dTimeout)) (replicate (length out) 0)) out
+    (cond responded (spduWith sign mode process (p .«FSP_Port») (statusOctet «DCount_i» sdSet dCommErr dTimeout)) (replicate (length out) 0)) out

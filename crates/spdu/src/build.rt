@@ -112,7 +112,7 @@ fn status_octet(DCount_i: u8, SDset: bool, DCommErr: bool, DTimeout: bool) -> u8
     DCount_i % 8 * 32 + bit(SDset, 4) + bit(DCommErr, 2) + bit(DTimeout, 1)
 }
 
-// The same with zeros for process octets.
+// As `write`, with n zeros for process octets.
 fn write_zeros(
     short: &[u16; 256],
     long: &[u32; 256],

@@ -53,9 +53,9 @@ pub(crate) fn word(a: u8, b: u8) -> u16
     a as u16 * 256 + b as u16
 }
 
-// The signature that an SPDU carries, from `at` on.
+// The signature that an SPDU carries, from `at` on: 2 behind the process octets, of which there are at most 255, so that no place overflows.
 fn carried(mode: u8, s: &[u8], at: usize) -> u32
-    requires { ⌜ at ≤ 1000 ⌝ }
+    requires { ⌜ at ≤ 257 ⌝ }
     ensures { λ r. ⌜ r ≡ places.carriedAt mode (now (s .entry)) at ⌝ }
 {
     let high = word(octet(s, at), octet(s, at + 1));
