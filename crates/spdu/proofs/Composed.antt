@@ -12,7 +12,7 @@ use lib.Seq.{length-take-le, take-length}
 use Rattle.ranges.specs.Fields.{safetyOctets}
 use Rattle.block.specs.declared.Params.{Params}
 use Rattle.spdu.specs.Signature.{replaced}
-use Rattle.spdu.specs.Built.{controlOctet, signatureOctets, contentsWith, spduWith, processSent, buffersHold, requestBuilt}
+use Rattle.spdu.specs.Built.{controlOctet, signatureOctets, contentsWith, spduWith, processSent, requestBuilt}
 use Rattle.spdu.specs.Image.{composerHolds, composed}
 use Rattle.spdu.proofs.Buffers.{and-parts}
 use Rattle.spdu.proofs.Join.{joined}

@@ -1,11 +1,11 @@
 -- Two lists, copied into a buffer one behind the other. Assumes nothing.
 use mathlib.Core.Path.{_≡_, sym, ap, ap₂, _∙_}
-use mathlib.Core.List.{List, [], _++_, append-nil}
-use Prim.Native.Nat.{ℕ, _+_, _-_, _≤_}
+use mathlib.Core.List.{List, _++_, append-nil}
+use Prim.Native.Nat.{ℕ, _+_, _-_}
 use native.Mathlib.Omega.{arith}
-use borrow.Rule.Slice.PartMut.{midOf, postOf, putMid}
+use borrow.Rule.Slice.PartMut.{midOf, putMid}
 use lib.ListN.{length, take, drop, length-append, length-take, length-drop, drop-of-length-le}
-use lib.Seq.{take-length, take-at, length-take-le}
+use lib.Seq.{take-length, take-at}
 
 module _ (front back out first second : List ℕ) (n : ℕ) (size : length out ≡ length front + length back) (at : n ≡ length front) where
   copied : first ≡ take (length front) front ++ drop (length front) out → first ≡ front ++ drop (length front) out

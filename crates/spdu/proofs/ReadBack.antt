@@ -142,9 +142,6 @@ module _ (n : ℕ) (setSD chFAckReq : Bool) where
   abbrev control : ℕ
   control = controlOctet n setSD chFAckReq
 
-  pub control-lt : control < 256
-  control-lt = omega (arith, weight setSD 2, small setSD, small chFAckReq)
-
   pub control-count : countIn control ≡ n % 8
   control-count = omega (arith, weight setSD 2, small setSD, small chFAckReq)
 
@@ -157,9 +154,6 @@ module _ (n : ℕ) (setSD chFAckReq : Bool) where
 module _ (n : ℕ) (sdSet dCommErr dTimeout : Bool) where
   abbrev status : ℕ
   status = statusOctet n sdSet dCommErr dTimeout
-
-  pub status-lt : status < 256
-  status-lt = omega (arith, weight sdSet 4, weight dCommErr 2, small sdSet, small dCommErr, small dTimeout)
 
   pub status-count : countIn status ≡ n % 8
   status-count = omega (arith, weight sdSet 4, weight dCommErr 2, small sdSet, small dCommErr, small dTimeout)

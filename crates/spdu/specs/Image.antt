@@ -1,9 +1,9 @@
 -- 000 10.5, 9.1.2: the process data image has the SPDU first and the other data behind it (R3); and what a call hands on (R26). Assumes nothing.
 use Prim.Native.Nat.{ℕ, _+_}
-use mathlib.Core.Bool.{Bool, true, cond, _&&_}
+use mathlib.Core.Bool.{Bool, cond, _&&_}
 use mathlib.Core.List.{List, [], _++_}
 use lib.Dec.{eqb}
-use lib.ListN.{length, take, drop, replicate}
+use lib.ListN.{length, take, drop}
 use Rattle.ranges.specs.Fields.{safetyOctets}
 use Rattle.block.specs.declared.Params.{Params}
 use Rattle.spdu.specs.declared.Mark.{Mark}

@@ -1,6 +1,5 @@
 // The SPDU's place in the process data image, and the values handed on.
 ghost use mathlib.Core.Path.{_≡_};
-ghost use mathlib.Core.Bool.{true};
 ghost use Prim.Native.Nat.{_+_};
 ghost use lib.ListN.{length};
 ghost use Rattle.spdu.specs.Signature.{byTables};

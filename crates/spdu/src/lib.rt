@@ -16,7 +16,6 @@ pub use image::other_part;
 pub use image::safe_values_hold;
 pub use image::spdu_part;
 pub use image::split;
-pub use plain::build_request;
 pub use plain::build_response;
 pub use plain::compose;
 pub use plain::read_request;

@@ -3,7 +3,7 @@ ghost use mathlib.Core.Path.{_≡_};
 ghost use lib.ListN.{length};
 ghost use Rattle.spdu.specs.Signature.{byBits};
 ghost use Rattle.spdu.specs.Fields.{responseBy, requestBy};
-ghost use Rattle.spdu.specs.Built.{builtAs, buffersHold, requestBuilt, responseBuilt};
+ghost use Rattle.spdu.specs.Built.{builtAs, buffersHold, responseBuilt};
 ghost use Rattle.spdu.specs.Image.{composerHolds, composed};
 ghost use Rattle.spdu.specs.Recording.{signaturesHeld};
 use crate::Request;
@@ -25,22 +25,6 @@ pub fn read_request(p: Params, s: &[u8]) -> Request
     let short = signature::table16();
     let long = signature::table32();
     crate::read::read_request_by(&short, &long, p, s)
-}
-
-pub fn build_request(
-    p: Params,
-    MCount: u8,
-    setSD: bool,
-    ChFAckReq: bool,
-    process: &[u8],
-    out: &mut [u8],
-) -> Answer
-    ensures { λ r. ⌜ r ≡ builtAs (buffersHold (p .«FSP_ProtMode») (p .SPDUOutLength) (length (now (process .entry))) (length (now (out .entry)))) ⌝ }
-    ensures { λ _. ⌜ now (out .exit) ≡ requestBuilt byBits p MCount setSD ChFAckReq (now (process .entry)) (now (out .entry)) ⌝ }
-{
-    let short = signature::table16();
-    let long = signature::table32();
-    crate::build::build_request_by(&short, &long, p, MCount, setSD, ChFAckReq, process, out)
 }
 
 pub fn build_response(

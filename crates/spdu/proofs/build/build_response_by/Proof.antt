@@ -1,6 +1,5 @@
 -- `spdu::build::build_response_by` meets its contract. Assumes nothing.
 use mathlib.Core.Path.{sym, ap, _∙_}
-use native.Mathlib.Omega.{arith}
 use lib.ListN.{length}
 use Rattle.spdu.specs.Signature.{byTables}
 use Rattle.spdu.specs.Built.{builtAs}
@@ -20,7 +19,6 @@ clear-requires : tie.Need-clear-requires
 clear-requires c κs =
     let at-hold = c .before .before in
     let call = at-hold .before in
-    let args = call .before .before .before .args in
     call .buffers-hold .ensures .1 (at-hold .if1 .taken)
 
 returns : tie.Need-returns

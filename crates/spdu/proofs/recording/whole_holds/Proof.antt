@@ -1,5 +1,4 @@
 -- `spdu::recording::whole_holds` meets its contract. Assumes nothing.
-use borrow.Author.Needs.{needs}
 use borrow.Author.Tests.{eq-eqb, ne-eqb}
 use Rattle.spdu.proofs.recording.whole_holds.Statement.{statement}
 use Rattle.spdu.proofs.recording.whole_holds.Tie as tie
