@@ -57,7 +57,7 @@ answer-is b (ReceiveRequest port at spdu safe) =
     let p = portAt b port in
     settled-answer p _ _ ∙ ap (λ (n : ℕ). answerBy Taken (requestRules port p n safe)) (request-length (p .params) spdu)
 answer-is b (Clock port at safeIn safeOut) = settled-answer (portAt b port) _ _
-answer-is b (Operator port at setSD ack safe) = settled-answer (portAt b port) _ _
+answer-is b (Operator port at «setSD_C» «ChFAck_C» safe) = settled-answer (portAt b port) _ _
 answer-is b (Compose port process other octets) =
     let p = portAt b port in
     on-buffers (answerBy Taken (callRules port p)) (image.composerHolds (p .params) (length process) (length other) (length octets))
@@ -85,7 +85,7 @@ exactly p (SetParameters port at octets) = (taken-exactly _ tt tt, given-exactly
 exactly p (ReceiveResponse port at spdu safe) = (taken-exactly _ tt tt, given-exactly _ tt tt)
 exactly p (ReceiveRequest port at spdu safe) = (taken-exactly _ tt tt, given-exactly _ tt tt)
 exactly p (Clock port at safeIn safeOut) = (taken-exactly _ tt tt, given-exactly _ tt tt)
-exactly p (Operator port at setSD ack safe) = (taken-exactly _ tt tt, given-exactly _ tt tt)
+exactly p (Operator port at «setSD_C» «ChFAck_C» safe) = (taken-exactly _ tt tt, given-exactly _ tt tt)
 exactly p (Compose port process other octets) = (taken-exactly _ tt tt, given-exactly _ tt tt)
 exactly p (BuildResponse port process out) = (taken-exactly _ tt tt, given-exactly _ tt tt)
 exactly p (Split port octets) = (taken-exactly _ tt tt, given-exactly _ tt tt)
@@ -104,7 +104,7 @@ refused-same b (ReceiveResponse port at spdu safe) e =
 refused-same b (ReceiveRequest port at spdu safe) e =
     let p = portAt b port in placed-refused b port (requestAt port p at (requestBy byBits (p .params) spdu) safe) e
 refused-same b (Clock port at safeIn safeOut) e = placed-refused b port (clockAt port (portAt b port) at safeIn safeOut) e
-refused-same b (Operator port at setSD ack safe) e = placed-refused b port (operatorAt port (portAt b port) at setSD ack safe) e
+refused-same b (Operator port at «setSD_C» «ChFAck_C» safe) e = placed-refused b port (operatorAt port (portAt b port) at «setSD_C» «ChFAck_C» safe) e
 refused-same b (Compose port process other octets) e = refl
 refused-same b (BuildResponse port process out) e = refl
 refused-same b (Split port octets) e = refl

@@ -37,7 +37,7 @@ after-length b (SetParameters port at octets) = placed-length b port _
 after-length b (ReceiveResponse port at spdu safe) = placed-length b port _
 after-length b (ReceiveRequest port at spdu safe) = placed-length b port _
 after-length b (Clock port at safeIn safeOut) = placed-length b port _
-after-length b (Operator port at setSD ack safe) = placed-length b port _
+after-length b (Operator port at «setSD_C» «ChFAck_C» safe) = placed-length b port _
 after-length b (Compose port process other octets) = refl
 after-length b (BuildResponse port process out) = refl
 after-length b (Split port octets) = refl
@@ -57,7 +57,7 @@ takenAt p (SetParameters port at octets) = acceptedPort p (paramsOf octets) at
 takenAt p (ReceiveResponse port at spdu safe) = stepOf p (happening.Response at (responseBy byBits (p .params) spdu)) .port
 takenAt p (ReceiveRequest port at spdu safe) = stepOf p (happening.Request at (requestBy byBits (p .params) spdu)) .port
 takenAt p (Clock port at safeIn safeOut) = stepOf p (happening.Clock at) .port
-takenAt p (Operator port at setSD ack safe) = stepOf p (happening.Operator at setSD ack) .port
+takenAt p (Operator port at «setSD_C» «ChFAck_C» safe) = stepOf p (happening.Operator at «setSD_C» «ChFAck_C») .port
 takenAt p (Compose port process other octets) = p
 takenAt p (BuildResponse port process out) = p
 takenAt p (Split port octets) = p
@@ -97,9 +97,9 @@ module _ (b : Bench) (all : length (b .ports) ≡ 8) where
   taken-at (Clock port at safeIn safeOut) k e =
       let p = portAt b port in
       happened-at port (answerBy Taken (clockRules port p safeIn safeOut)) (happening.Clock at) k e
-  taken-at (Operator port at setSD ack safe) k e =
+  taken-at (Operator port at «setSD_C» «ChFAck_C» safe) k e =
       let p = portAt b port in
-      happened-at port (answerBy Taken (operatorRules port p safe)) (happening.Operator at setSD ack) k e
+      happened-at port (answerBy Taken (operatorRules port p safe)) (happening.Operator at «setSD_C» «ChFAck_C») k e
   taken-at (Compose port process other octets) k e = refl
   taken-at (BuildResponse port process out) k e = refl
   taken-at (Split port octets) k e = refl
@@ -115,7 +115,7 @@ module _ (b : Bench) (all : length (b .ports) ≡ 8) where
   other-at q k (ReceiveResponse port at spdu safe) e = placed-other b all q k port _ e
   other-at q k (ReceiveRequest port at spdu safe) e = placed-other b all q k port _ e
   other-at q k (Clock port at safeIn safeOut) e = placed-other b all q k port _ e
-  other-at q k (Operator port at setSD ack safe) e = placed-other b all q k port _ e
+  other-at q k (Operator port at «setSD_C» «ChFAck_C» safe) e = placed-other b all q k port _ e
   other-at q k (Compose port process other octets) e = refl
   other-at q k (BuildResponse port process out) e = refl
   other-at q k (Split port octets) e = refl

@@ -16,7 +16,7 @@ use Rattle.spdu.specs.declared.Mark.{Mark}
 use Rattle.spdu.specs.declared.Mark.the-variants.{Fresh}
 use Rattle.spdu.specs.Places.{processOctets, processOf, allZero}
 use Rattle.spdu.specs.Image as image
-use Rattle.scl.specs.Happenings.{handedOn}
+use Rattle.scl.specs.Happenings.{markOf}
 use Rattle.scl.specs.declared.Happening.{Happening}
 use Rattle.scl.specs.declared.Happening.the-variants as happening
 use Rattle.scl.proofs.Cases.{no, and-left, and-right}
@@ -40,33 +40,33 @@ use Rattle.answer.proofs.Exact.{taken-exactly}
 
 -- ---- the mark of each end
 
-received-mark : (m : Master) (r : masterRow.Row) (at : ℕ) (f : Response) → masters.received m r at f .mark ≡ handedOn (table38.isTaken m f) (masters.received m r at f .master .released)
+received-mark : (m : Master) (r : masterRow.Row) (at : ℕ) (f : Response) → masters.received m r at f .mark ≡ markOf (table38.isTaken m f) (masters.received m r at f .master .released)
 unfolding masters.received masters.arrived masters.quiet
 received-mark m r at f = go (table38.isTaken m f)
   where
-    go : (b : Bool) → cond b (masters.arrived m r at f (table38.checked m f)) (masters.quiet m r (table38.isOld m f)) .mark ≡ handedOn b (cond b (masters.arrived m r at f (table38.checked m f)) (masters.quiet m r (table38.isOld m f)) .master .released)
+    go : (b : Bool) → cond b (masters.arrived m r at f (table38.checked m f)) (masters.quiet m r (table38.isOld m f)) .mark ≡ markOf b (cond b (masters.arrived m r at f (table38.checked m f)) (masters.quiet m r (table38.isOld m f)) .master .released)
     go true = refl
     go false = refl
 
-response-mark : (m : Master) (w at : ℕ) (f : Response) → masters.stepOf m w (happening.Response at f) .mark ≡ handedOn (table38.isTaken (masters.judged m w at) f) (masters.stepOf m w (happening.Response at f) .master .released)
+response-mark : (m : Master) (w at : ℕ) (f : Response) → masters.stepOf m w (happening.Response at f) .mark ≡ markOf (table38.isTaken (masters.judged m w at) f) (masters.stepOf m w (happening.Response at f) .master .released)
 unfolding masters.stepOf
 response-mark m w at f = received-mark (masters.judged m w at) (table38.watchdogRow m w at) at f
 
-requested-mark : (d : Device) (r : deviceRow.Row) (at : ℕ) (q : Request) → devices.received d r at q .mark ≡ handedOn (table40.isTaken d q) (devices.received d r at q .device .released)
+requested-mark : (d : Device) (r : deviceRow.Row) (at : ℕ) (q : Request) → devices.received d r at q .mark ≡ markOf (table40.isTaken d q) (devices.received d r at q .device .released)
 unfolding devices.received devices.arrived devices.quiet
 requested-mark d r at q = go (table40.isTaken d q)
   where
-    go : (b : Bool) → cond b (devices.arrived d r at q (table40.checked d q)) (devices.quiet d r (table40.isOld d q)) .mark ≡ handedOn b (cond b (devices.arrived d r at q (table40.checked d q)) (devices.quiet d r (table40.isOld d q)) .device .released)
+    go : (b : Bool) → cond b (devices.arrived d r at q (table40.checked d q)) (devices.quiet d r (table40.isOld d q)) .mark ≡ markOf b (cond b (devices.arrived d r at q (table40.checked d q)) (devices.quiet d r (table40.isOld d q)) .device .released)
     go true = refl
     go false = refl
 
-request-mark : (d : Device) (w at : ℕ) (q : Request) → devices.stepOf d w (happening.Request at q) .mark ≡ handedOn (table40.isTaken (devices.judged d w at) q) (devices.stepOf d w (happening.Request at q) .device .released)
+request-mark : (d : Device) (w at : ℕ) (q : Request) → devices.stepOf d w (happening.Request at q) .mark ≡ markOf (table40.isTaken (devices.judged d w at) q) (devices.stepOf d w (happening.Request at q) .device .released)
 unfolding devices.stepOf
 request-mark d w at q = requested-mark (devices.judged d w at) (table40.watchdogRow d w at) at q
 
 -- ---- the part that a mark stands for
 
-part : (row releases : Bool) (mode : ℕ) (spdu safe : List ℕ) → image.handedOn (handedOn row releases) mode spdu safe ≡ cond releases (cond row (processOf mode spdu) []) safe
+part : (row releases : Bool) (mode : ℕ) (spdu safe : List ℕ) → image.handedOn (markOf row releases) mode spdu safe ≡ cond releases (cond row (processOf mode spdu) []) safe
 part true true mode spdu safe = refl
 part false true mode spdu safe = refl
 part row false mode spdu safe = refl
@@ -82,7 +82,7 @@ zeros mode n safe e =
     let l : length safe ≡ processOctets mode n = eqb-true (length safe) (processOctets mode n) (and-left (eqb (length safe) (processOctets mode n)) (allZero safe) e) in
     all-zeros safe (and-right (eqb (length safe) (processOctets mode n)) (allZero safe) e) ∙ ap (λ (k : ℕ). replicate k 0) l
 
-hands : {mark : Mark} (row releases : Bool) (mode n : ℕ) (spdu safe : List ℕ) → mark ≡ handedOn row releases → image.safeValuesHold mode n safe ≡ true → image.handedOn mark mode spdu safe ≡ handsOn releases row (processOf mode spdu) (processOctets mode n)
+hands : {mark : Mark} (row releases : Bool) (mode n : ℕ) (spdu safe : List ℕ) → mark ≡ markOf row releases → image.safeValuesHold mode n safe ≡ true → image.handedOn mark mode spdu safe ≡ handsOn releases row (processOf mode spdu) (processOctets mode n)
 hands {mark} row releases mode n spdu safe e s =
     ap (λ (k : Mark). image.handedOn k mode spdu safe) e ∙ part row releases mode spdu safe ∙ ap (λ (z : List ℕ). cond releases (cond row (processOf mode spdu) []) z) (zeros mode n safe s)
 
@@ -142,15 +142,15 @@ module _ (port : ℕ) (p : Port) (at : ℕ) where
         (hands false (stepOf p (happening.Clock at) .reply .«device_releases») (p .params .«FSP_ProtMode») (p .params .SPDUOutLength) [] safeOut refl (and-right (safeInHold (p .params) safeIn) (safeOutHold (p .params) safeOut) both-hold))
 
   -- operator signals
-  pub operator-hands-on : (setSD ack : Bool) (safe : List ℕ) → isTaken (answerBy Taken (operatorRules port p safe)) ≡ true
-      → let r = operatorAt port p at setSD ack safe .reply in
+  pub operator-hands-on : («setSD_C» «ChFAck_C» : Bool) (safe : List ℕ) → isTaken (answerBy Taken (operatorRules port p safe)) ≡ true
+      → let r = operatorAt port p at «setSD_C» «ChFAck_C» safe .reply in
       handed (r .master) [] safe ≡ handsOn (r .«master_releases») false [] (octetsIn p)
   unfolding stepOf masters.stepOf masters.operated masters.quiet
-  operator-hands-on setSD ack safe t =
+  operator-hands-on «setSD_C» «ChFAck_C» safe t =
       let rules = operatorRules port p safe in
       let kept : Kept rules = taken-exactly rules tt tt .0 t in
-      rw (settled-taken p (answerBy Taken rules) (happening.Operator at setSD ack) t)
-      (hands false (stepOf p (happening.Operator at setSD ack) .reply .«master_releases») (p .params .«FSP_ProtMode») (p .params .SPDUInLength) [] safe refl (kept-true (safeInHold (p .params) safe) (kept .each 2)))
+      rw (settled-taken p (answerBy Taken rules) (happening.Operator at «setSD_C» «ChFAck_C») t)
+      (hands false (stepOf p (happening.Operator at «setSD_C» «ChFAck_C») .reply .«master_releases») (p .params .«FSP_ProtMode») (p .params .SPDUInLength) [] safe refl (kept-true (safeInHold (p .params) safe) (kept .each 2)))
 
 -- ---- a refused call hands on nothing, and says that nothing is released
 pub refused-hands-on : (p : Port) (a : Answer) (h : Happening) → isTaken a ≡ false → settled p a h .reply ≡ silent a

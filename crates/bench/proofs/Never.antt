@@ -55,7 +55,7 @@ Read : Happening → Type 0
 Read (happening.Response at f) = f .«DCount_i» ≤ 7
 Read (happening.Request at q) = q .MCount ≤ 7
 Read (happening.Clock at) = true ≡ true
-Read (happening.Operator at setSD ack) = true ≡ true
+Read (happening.Operator at «setSD_C» «ChFAck_C») = true ≡ true
 
 data AllRead : List Happening → Type 0 where
   none : AllRead []
@@ -88,7 +88,7 @@ module _ (at w : ℕ) where
   carried-by m (happening.Response at f) r h c = cond-case (λ (z : Previous). z .carried ≤ 7) (table38.isTaken m f) (λ _. h) (λ _. c)
   carried-by m (happening.Request at q) r h c = c
   carried-by m (happening.Clock at) r h c = c
-  carried-by m (happening.Operator at setSD ack) r h c = c
+  carried-by m (happening.Operator at «setSD_C» «ChFAck_C») r h c = c
 
   carried-always : {past : List Happening} → AllRead past → lastTaken at w past .carried ≤ 7
   unfolding lastTaken
@@ -115,21 +115,21 @@ at-most-1 false n h = h
 cleared-1 : (n : ℕ) → n ≤ 1 → cond (eqb n 1) 0 n ≤ 1
 cleared-1 n h = cond-case (λ (k : ℕ). k ≤ 1) (eqb n 1) (λ _. omega arith) (λ _. h)
 
-acted-bounded : (d : Device) (r : Row) (at : ℕ) (setSD commErr : Bool) → Bounded d → Bounded (table40.acted d r at setSD commErr)
+acted-bounded : (d : Device) (r : Row) (at : ℕ) (setSD CommErr : Bool) → Bounded d → Bounded (table40.acted d r at setSD CommErr)
 unfolding table40.acted table40.t22 table40.t25 table40.t28 table40.t29 table40.t30t31
-acted-bounded d Stay at setSD commErr b = b
-acted-bounded d T22 at setSD commErr b = record { taken-count = b .taken-count; mirrored = inverted-below (d .MCount); cycles = omega (arith, b .cycles); errors = b .errors; timeouts = b .timeouts }
-acted-bounded d T25 at setSD commErr b = record { taken-count = b .taken-count; mirrored = inverted-below (d .MCount); cycles = omega arith; errors = omega arith; timeouts = b .timeouts }
-acted-bounded d T28 at setSD commErr b = record { taken-count = b .taken-count; mirrored = inverted-below (d .MCount); cycles = b .cycles; errors = b .errors; timeouts = b .timeouts }
-acted-bounded d T29 at setSD commErr b = record {
+acted-bounded d Stay at setSD CommErr b = b
+acted-bounded d T22 at setSD CommErr b = record { taken-count = b .taken-count; mirrored = inverted-below (d .MCount); cycles = omega (arith, b .cycles); errors = b .errors; timeouts = b .timeouts }
+acted-bounded d T25 at setSD CommErr b = record { taken-count = b .taken-count; mirrored = inverted-below (d .MCount); cycles = omega arith; errors = omega arith; timeouts = b .timeouts }
+acted-bounded d T28 at setSD CommErr b = record { taken-count = b .taken-count; mirrored = inverted-below (d .MCount); cycles = b .cycles; errors = b .errors; timeouts = b .timeouts }
+acted-bounded d T29 at setSD CommErr b = record {
   taken-count = b .taken-count;
   mirrored = inverted-below (d .MCount);
-  cycles = at-most-3 commErr (d .SDcycles) (b .cycles);
-  errors = cleared-1 (cond commErr 1 (d .CommErrCount)) (at-most-1 commErr (d .CommErrCount) (b .errors));
+  cycles = at-most-3 CommErr (d .SDcycles) (b .cycles);
+  errors = cleared-1 (cond CommErr 1 (d .CommErrCount)) (at-most-1 CommErr (d .CommErrCount) (b .errors));
   timeouts = cleared-1 (d .TimeoutCount) (b .timeouts);
 }
-acted-bounded d T30 at setSD commErr b = record { taken-count = b .taken-count; mirrored = inverted-below (d .MCount); cycles = omega arith; errors = b .errors; timeouts = omega arith }
-acted-bounded d T31 at setSD commErr b = record { taken-count = b .taken-count; mirrored = inverted-below (d .MCount); cycles = omega arith; errors = b .errors; timeouts = omega arith }
+acted-bounded d T30 at setSD CommErr b = record { taken-count = b .taken-count; mirrored = inverted-below (d .MCount); cycles = omega arith; errors = b .errors; timeouts = omega arith }
+acted-bounded d T31 at setSD CommErr b = record { taken-count = b .taken-count; mirrored = inverted-below (d .MCount); cycles = omega arith; errors = b .errors; timeouts = omega arith }
 
 judged-bounded : (d : Device) (w at : ℕ) → Bounded d → Bounded (devices.judged d w at)
 unfolding devices.judged
@@ -151,7 +151,7 @@ unfolding devices.stepOf devices.watched devices.quiet Read
 step-bounded d w (happening.Request at q) r b = received-bounded (devices.judged d w at) (table40.watchdogRow d w at) at q r (judged-bounded d w at b)
 step-bounded d w (happening.Response at f) r b = judged-bounded d w at b
 step-bounded d w (happening.Clock at) r b = judged-bounded d w at b
-step-bounded d w (happening.Operator at setSD ack) r b = judged-bounded d w at b
+step-bounded d w (happening.Operator at «setSD_C» «ChFAck_C») r b = judged-bounded d w at b
 
 module _ (at w : ℕ) where
   bounded-always : {past : List Happening} → AllRead past → Bounded (deviceAfter at w past)
@@ -188,7 +188,7 @@ extended-sound q past (SetParameters port at octets) s e t o z = rw (sym e) (blo
 extended-sound q past (ReceiveResponse port at spdu safe) s e t o z = goes-sound q s (λ p. happening.Response at (responseBy byBits p spdu)) (λ p. response-read p spdu) z
 extended-sound q past (ReceiveRequest port at spdu safe) s e t o z = goes-sound q s (λ p. happening.Request at (requestBy byBits p spdu)) (λ p. request-read p spdu) z
 extended-sound q past (Clock port at safeIn safeOut) s e t o z = goes-sound q s (λ p. happening.Clock at) (λ p. refl) z
-extended-sound q past (Operator port at setSD ack safe) s e t o z = goes-sound q s (λ p. happening.Operator at setSD ack) (λ p. refl) z
+extended-sound q past (Operator port at «setSD_C» «ChFAck_C» safe) s e t o z = goes-sound q s (λ p. happening.Operator at «setSD_C» «ChFAck_C») (λ p. refl) z
 extended-sound q past (Compose port process other octets) s e t o z = z
 extended-sound q past (BuildResponse port process out) s e t o z = z
 extended-sound q past (Split port octets) s e t o z = z

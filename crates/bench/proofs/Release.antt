@@ -32,7 +32,7 @@ unfolding FreshBy passesBy
 fresh-passes m w (happening.Response at f) c = let r = c .0 in simp (r .taken, r .signature, r .port, r .count)
 fresh-passes m w (happening.Request at q) c = absurd c
 fresh-passes m w (happening.Clock at) c = absurd c
-fresh-passes m w (happening.Operator at setSD ack) c = absurd c
+fresh-passes m w (happening.Operator at «setSD_C» «ChFAck_C») c = absurd c
 
 or-first : (a b : Bool) → a ≡ true → (a || b) ≡ true
 or-first true b e = refl
@@ -106,7 +106,7 @@ step-phase m w (happening.Response at f) s i p =
     rw (step-watchdog m w (happening.Response at f)) (received-phase (judged m w at) (watchdogRow m w at) at f (faultAfter (watchdogRow m w at) s) (judged-held m w at i) (judged-phase m w at s i p))
 step-phase m w (happening.Request at q) s i p = judged-phase m w at s i p
 step-phase m w (happening.Clock at) s i p = judged-phase m w at s i p
-step-phase m w (happening.Operator at setSD ack) s i p =
+step-phase m w (happening.Operator at «setSD_C» «ChFAck_C») s i p =
     let j = judged-phase m w at s i p in record { away = j .away; faulty = j .faulty; safe = j .safe; armed = j .armed }
 
 module _ (at w : ℕ) where

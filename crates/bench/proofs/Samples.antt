@@ -46,7 +46,7 @@ module _ (at w : ℕ) where
       go false z = z
   kept-by m (happening.Request at q) r k = judged-kept m w at k
   kept-by m (happening.Clock at) r k = judged-kept m w at k
-  kept-by m (happening.Operator at setSD ack) r k =
+  kept-by m (happening.Operator at «setSD_C» «ChFAck_C») r k =
       let j = judged-kept m w at k in record { previous-is = j .previous-is; carried-is = j .carried-is; awaited-is = j .awaited-is }
 
   pub previous-is : (past : List Happening) → Kept (lastTaken at w past .previous) (lastTaken at w past .carried) (inverted (lastTaken at w past .stood)) (masterAfter at w past)
@@ -60,14 +60,14 @@ module _ (at w : ℕ) where
   passes-as m (happening.Response at f) = sym (step-passed m w at f)
   passes-as m (happening.Request at q) = refl
   passes-as m (happening.Clock at) = refl
-  passes-as m (happening.Operator at setSD ack) = refl
+  passes-as m (happening.Operator at «setSD_C» «ChFAck_C») = refl
 
   old-as : (m : Master) (h : Happening) → oldBy (judged m w (readingOf h)) h ≡ stepOf m w h .old
   unfolding oldBy stepOf watched operated quiet
   old-as m (happening.Response at f) = sym (step-old m w at f)
   old-as m (happening.Request at q) = refl
   old-as m (happening.Clock at) = refl
-  old-as m (happening.Operator at setSD ack) = refl
+  old-as m (happening.Operator at «setSD_C» «ChFAck_C») = refl
 
   -- ---- no count that stands has been answered: a response that passes is followed by another count
   passes-no : (m : Master) (h : Happening) → stepOf m w h .master .MCount ≡ judged m w (readingOf h) .MCount → passesBy (judged m w (readingOf h)) h ≡ false
@@ -79,7 +79,7 @@ module _ (at w : ℕ) where
       go false z = refl
   passes-no m (happening.Request at q) e = refl
   passes-no m (happening.Clock at) e = refl
-  passes-no m (happening.Operator at setSD ack) e = refl
+  passes-no m (happening.Operator at «setSD_C» «ChFAck_C») e = refl
 
   both-no : (a b : Bool) → a ≡ false → b ≡ false → (a || b) ≡ false
   both-no true b e f = e

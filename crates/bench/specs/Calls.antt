@@ -72,7 +72,7 @@ abbrev pub clockAt : ℕ → Port → ℕ → List ℕ → List ℕ → PortAfte
 clockAt port p at safeIn safeOut = settled p (answerBy Taken (clockRules port p safeIn safeOut)) (happening.Clock at)
 
 abbrev pub operatorAt : ℕ → Port → ℕ → Bool → Bool → List ℕ → PortAfter
-operatorAt port p at setSD ack safe = settled p (answerBy Taken (operatorRules port p safe)) (happening.Operator at setSD ack)
+operatorAt port p at «setSD_C» «ChFAck_C» safe = settled p (answerBy Taken (operatorRules port p safe)) (happening.Operator at «setSD_C» «ChFAck_C»)
 
 -- a parameter block judged, with its reading
 unfoldable pub parametersAs : Port → ℕ → Judged → PortAfter
@@ -99,4 +99,4 @@ abbrev pub clock : Bench → ℕ → ℕ → List ℕ → List ℕ → BenchAfte
 clock b port at safeIn safeOut = placed b port (clockAt port (portAt b port) at safeIn safeOut)
 
 abbrev pub operator : Bench → ℕ → ℕ → Bool → Bool → List ℕ → BenchAfter
-operator b port at setSD ack safe = placed b port (operatorAt port (portAt b port) at setSD ack safe)
+operator b port at «setSD_C» «ChFAck_C» safe = placed b port (operatorAt port (portAt b port) at «setSD_C» «ChFAck_C» safe)

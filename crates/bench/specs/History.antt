@@ -51,7 +51,7 @@ pub data Call : Type 0 where
   ReceiveResponse : (port at : ℕ) (spdu safe : List ℕ) → Call
   ReceiveRequest : (port at : ℕ) (spdu safe : List ℕ) → Call
   Clock : (port at : ℕ) (safeIn safeOut : List ℕ) → Call
-  Operator : (port at : ℕ) (setSD ack : Bool) (safe : List ℕ) → Call
+  Operator : (port at : ℕ) («setSD_C» «ChFAck_C» : Bool) (safe : List ℕ) → Call
   Compose : (port : ℕ) (process other octets : List ℕ) → Call
   BuildResponse : (port : ℕ) (process out : List ℕ) → Call
   Split : (port : ℕ) (octets : List ℕ) → Call
@@ -66,7 +66,7 @@ portOf (SetParameters port at octets) = port
 portOf (ReceiveResponse port at spdu safe) = port
 portOf (ReceiveRequest port at spdu safe) = port
 portOf (Clock port at safeIn safeOut) = port
-portOf (Operator port at setSD ack safe) = port
+portOf (Operator port at «setSD_C» «ChFAck_C» safe) = port
 portOf (Compose port process other octets) = port
 portOf (BuildResponse port process out) = port
 portOf (Split port octets) = port
@@ -81,7 +81,7 @@ rulesOf p (SetParameters port at octets) = rulesOn octets port
 rulesOf p (ReceiveResponse port at spdu safe) = calls.responseRules port p (length spdu) safe
 rulesOf p (ReceiveRequest port at spdu safe) = calls.requestRules port p (length spdu) safe
 rulesOf p (Clock port at safeIn safeOut) = calls.clockRules port p safeIn safeOut
-rulesOf p (Operator port at setSD ack safe) = calls.operatorRules port p safe
+rulesOf p (Operator port at «setSD_C» «ChFAck_C» safe) = calls.operatorRules port p safe
 rulesOf p (Compose port process other octets) = calls.callRules port p ++ (rule (not (image.composerHolds (p .params) (length process) (length other) (length octets))) Buffer ∷ [])
 rulesOf p (BuildResponse port process out) = calls.callRules port p ++ (rule (not (buffersHold (p .params .«FSP_ProtMode») (p .params .SPDUInLength) (length process) (length out))) Buffer ∷ [])
 rulesOf p (Split port octets) = calls.callRules port p ++ (rule (not (image.splitterHolds (p .params) (length octets))) Buffer ∷ [])
@@ -96,7 +96,7 @@ answerOf b (SetParameters port at octets) = calls.setParameters b port at octets
 answerOf b (ReceiveResponse port at spdu safe) = calls.receiveResponse b port at spdu safe .reply .answer
 answerOf b (ReceiveRequest port at spdu safe) = calls.receiveRequest b port at spdu safe .reply .answer
 answerOf b (Clock port at safeIn safeOut) = calls.clock b port at safeIn safeOut .reply .answer
-answerOf b (Operator port at setSD ack safe) = calls.operator b port at setSD ack safe .reply .answer
+answerOf b (Operator port at «setSD_C» «ChFAck_C» safe) = calls.operator b port at «setSD_C» «ChFAck_C» safe .reply .answer
 answerOf b (Compose port process other octets) = composeAnswer port (portAt b port) process other octets
 answerOf b (BuildResponse port process out) = buildAnswer port (portAt b port) process out
 answerOf b (Split port octets) = splitAnswer port (portAt b port) octets
@@ -111,7 +111,7 @@ after b (SetParameters port at octets) = calls.setParameters b port at octets .b
 after b (ReceiveResponse port at spdu safe) = calls.receiveResponse b port at spdu safe .bench
 after b (ReceiveRequest port at spdu safe) = calls.receiveRequest b port at spdu safe .bench
 after b (Clock port at safeIn safeOut) = calls.clock b port at safeIn safeOut .bench
-after b (Operator port at setSD ack safe) = calls.operator b port at setSD ack safe .bench
+after b (Operator port at «setSD_C» «ChFAck_C» safe) = calls.operator b port at «setSD_C» «ChFAck_C» safe .bench
 after b (Compose port process other octets) = b
 after b (BuildResponse port process out) = b
 after b (Split port octets) = b
@@ -147,7 +147,7 @@ extended s (SetParameters port at octets) = since at (paramsOf octets) []
 extended s (ReceiveResponse port at spdu safe) = goesOn s (λ params. happening.Response at (responseBy byBits params spdu))
 extended s (ReceiveRequest port at spdu safe) = goesOn s (λ params. happening.Request at (requestBy byBits params spdu))
 extended s (Clock port at safeIn safeOut) = goesOn s (λ params. happening.Clock at)
-extended s (Operator port at setSD ack safe) = goesOn s (λ params. happening.Operator at setSD ack)
+extended s (Operator port at «setSD_C» «ChFAck_C» safe) = goesOn s (λ params. happening.Operator at «setSD_C» «ChFAck_C»)
 extended s (Compose port process other octets) = s
 extended s (BuildResponse port process out) = s
 extended s (Split port octets) = s
@@ -183,14 +183,14 @@ unfoldable pub passesBy : Master → Happening → Bool
 passesBy m (happening.Response at f) = table38.isTaken m f && masterSpecs.sound m f
 passesBy m (happening.Request at q) = false
 passesBy m (happening.Clock at) = false
-passesBy m (happening.Operator at setSD ack) = false
+passesBy m (happening.Operator at «setSD_C» «ChFAck_C») = false
 
 -- "A repeated response isn't a second sample" (R14a)
 unfoldable pub oldBy : Master → Happening → Bool
 oldBy m (happening.Response at f) = table38.isOld m f
 oldBy m (happening.Request at q) = false
 oldBy m (happening.Clock at) = false
-oldBy m (happening.Operator at setSD ack) = false
+oldBy m (happening.Operator at «setSD_C» «ChFAck_C») = false
 
 -- what is kept while a count stays, and begins anew where it takes another value
 abbrev pub whileSame : {A : Type 0} → ℕ → ℕ → A → A → A
@@ -245,7 +245,7 @@ unfoldable pub previousBy : Master → Happening → Previous → Previous
 previousBy m (happening.Response at f) r = cond (table38.isTaken m f) (record { previous = true; carried = f .«DCount_i»; stood = m .MCount }) r
 previousBy m (happening.Request at q) r = r
 previousBy m (happening.Clock at) r = r
-previousBy m (happening.Operator at setSD ack) r = r
+previousBy m (happening.Operator at «setSD_C» «ChFAck_C») r = r
 
 -- before any, the FS-Master keeps 0 for both counts and does not read them
 unfoldable pub lastTaken : ℕ → ℕ → List Happening → Previous
@@ -327,7 +327,7 @@ blockIn (SetParameters port at octets) = octets
 blockIn (ReceiveResponse port at spdu safe) = []
 blockIn (ReceiveRequest port at spdu safe) = []
 blockIn (Clock port at safeIn safeOut) = []
-blockIn (Operator port at setSD ack safe) = []
+blockIn (Operator port at «setSD_C» «ChFAck_C» safe) = []
 blockIn (Compose port process other octets) = []
 blockIn (BuildResponse port process out) = []
 blockIn (Split port octets) = []

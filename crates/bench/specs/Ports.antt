@@ -107,7 +107,7 @@ withPort b port p = cond (outside 1 8 port) b (record { ports = set (b .ports) (
 unfoldable pub sentAt : Master → Row → ℕ → ℕ
 sentAt m watchdog at = cond (eqb (rowNumberOf watchdog) 0 || eqb (m .MCount) 0) (m .sample) at
 
--- A happening at the FS-Master. `passes`: a response has come that passes and is not old (R14a), t ms after the count that it answers was
+-- A happening at the FS-Master. `passes_anew`: a response has come that passes and is not old (R14a), t ms after the count that it answers was
 -- first sent.
 abbrev pub movedOf : Master → ℕ → Happening → Moved
 movedOf m w h =
@@ -115,13 +115,13 @@ movedOf m w h =
     record {
       master = o .master;
       mark = o .mark;
-      passes = o .passed && not (o .old);
+      «passes_anew» = o .passed && not (o .old);
       t = elapsedOf (readingOf h) (sentAt m (o .watchdog) (readingOf h));
     }
 
 -- "A sample is the first response that passes for each count sent, with elapsed t at most W"
 unfoldable pub tallied : Histogram → ℕ → Bool → ℕ → Histogram
-tallied h w passes t = cond (passes && leb t w) (countedOf h w t) h
+tallied h w anew t = cond (anew && leb t w) (countedOf h w t) h
 
 -- Every happening judges the watchdog of both ends, then what arrived goes to the end it is for (R11).
 unfoldable pub stepOf : Port → Happening → PortAfter
@@ -135,7 +135,7 @@ stepOf p h =
         params = p .params;
         master = m .master;
         device = d .device;
-        histogram = tallied (p .histogram) w (m .passes) (m .t);
+        histogram = tallied (p .histogram) w (m .«passes_anew») (m .t);
       };
       reply = record {
         answer = Taken;

@@ -62,10 +62,10 @@ fn sent_at(m: Master, watchdog: Row, at: u32) -> u32
     if none | (m.MCount == 0) { m.sample } else { at }
 }
 
-fn tallied(h: Histogram, w: u16, passes: bool, t: u32) -> Histogram
-    ensures { λ r. ⌜ r ≡ ports.tallied h w passes t ⌝ }
+fn tallied(h: Histogram, w: u16, passes_anew: bool, t: u32) -> Histogram
+    ensures { λ r. ⌜ r ≡ ports.tallied h w «passes_anew» t ⌝ }
 {
-    if passes {
+    if passes_anew {
         if t <= w as u32 {
             return histogram::counted(h, w, t as u16);
         }
@@ -85,7 +85,7 @@ pub fn move_master(m: Master, w: u16, happening: Happening) -> Moved
     Moved {
         master,
         mark,
-        passes: after.passed & !after.old,
+        passes_anew: after.passed & !after.old,
         t: scl::elapsed(at, sent_at(m, watchdog, at)),
     }
 }
@@ -97,7 +97,7 @@ fn step(p: Port, happening: Happening) -> PortAfter
     let w = p.params.FSP_WatchdogTime;
     let m = move_master(p.master, w, happening);
     let d = fs_device::step(p.device, w, happening);
-    let histogram = tallied(p.histogram, w, m.passes, m.t);
+    let histogram = tallied(p.histogram, w, m.passes_anew, m.t);
     let params = p.params;
     let master = m.master;
     let device = d.device;

@@ -45,12 +45,12 @@ pub struct Bench {
     pub ports: [Port; 8],
 }
 
-// What a happening does at an FS-Master. `passes`: a response has come that passes and is not old, t ms after the count that it answers was
+// What a happening does at an FS-Master. `passes_anew`: a response has come that passes and is not old, t ms after the count that it answers was
 // first sent.
 pub struct Moved {
     pub master: Master,
     pub mark: Mark,
-    pub passes: bool,
+    pub passes_anew: bool,
     pub t: u32,
 }
 

@@ -46,7 +46,7 @@ unfolding stands stepOf watched quiet
 stands-same d w (happening.Request at q) e = no (cc)
 stands-same d w (happening.Response at f) e = judged-stands d w at e
 stands-same d w (happening.Clock at) e = judged-stands d w at e
-stands-same d w (happening.Operator at setSD ack) e = judged-stands d w at e
+stands-same d w (happening.Operator at «setSD_C» «ChFAck_C») e = judged-stands d w at e
 
 -- the watchdog's rows, and the rows of an SPDU that is taken, one by one
 module _ (d : Device) (w at : ℕ) (P : Device → Type 0) where
@@ -59,12 +59,12 @@ module _ (d : Device) (w at : ℕ) (P : Device → Type 0) where
       (λ _. stay)
 
 module _ (d : Device) (at : ℕ) (q : Request) (P : Device → Type 0) where
-  row-case : (commErr : Bool) → P (t22 (taken d q) at (q .setSD)) → P (t25 (taken d q) at) → P (t28 (taken d q) at) → P (t29 (taken d q) at commErr) → P (acted (taken d q) (arrivalRow d commErr) at (q .setSD) commErr)
+  row-case : (CommErr : Bool) → P (t22 (taken d q) at (q .setSD)) → P (t25 (taken d q) at) → P (t28 (taken d q) at) → P (t29 (taken d q) at CommErr) → P (acted (taken d q) (arrivalRow d CommErr) at (q .setSD) CommErr)
   unfolding arrivalRow acted
-  row-case commErr p22 p25 p28 p29 =
-      cond-case (λ (r : Row). P (acted (taken d q) r at (q .setSD) commErr)) (eqb (d .state) 26)
-      (λ _. cond-case (λ (r : Row). P (acted (taken d q) r at (q .setSD) commErr)) (commErr || not (eqb (d .SDcycles) 0)) (λ _. p29) (λ _. p28))
-      (λ _. cond-case (λ (r : Row). P (acted (taken d q) r at (q .setSD) commErr)) commErr (λ _. p25) (λ _. p22))
+  row-case CommErr p22 p25 p28 p29 =
+      cond-case (λ (r : Row). P (acted (taken d q) r at (q .setSD) CommErr)) (eqb (d .state) 26)
+      (λ _. cond-case (λ (r : Row). P (acted (taken d q) r at (q .setSD) CommErr)) (CommErr || not (eqb (d .SDcycles) 0)) (λ _. p29) (λ _. p28))
+      (λ _. cond-case (λ (r : Row). P (acted (taken d q) r at (q .setSD) CommErr)) CommErr (λ _. p25) (λ _. p22))
 
 -- Counts
 
@@ -85,7 +85,7 @@ unfolding stepOf watched quiet
 mirrored d w (happening.Request at q) m = received-mirrors (judged d w at) (watchdogRow d w at) at q (judged-mirrors d w at m)
 mirrored d w (happening.Response at f) m = judged-mirrors d w at m
 mirrored d w (happening.Clock at) m = judged-mirrors d w at m
-mirrored d w (happening.Operator at setSD ack) m = judged-mirrors d w at m
+mirrored d w (happening.Operator at «setSD_C» «ChFAck_C») m = judged-mirrors d w at m
 
 judged-count : (d : Device) (w at : ℕ) → judged d w at .MCount ≡ d .MCount
 unfolding t30t31
@@ -103,7 +103,7 @@ unfolding stepOf watched quiet lastTaken judged acted
 last-taken d w (happening.Request at q) = rw (judged-count d w at) at (received-count (judged d w at) (watchdogRow d w at) at q)
 last-taken d w (happening.Response at f) = judged-count d w at
 last-taken d w (happening.Clock at) = judged-count d w at
-last-taken d w (happening.Operator at setSD ack) = judged-count d w at
+last-taken d w (happening.Operator at «setSD_C» «ChFAck_C») = judged-count d w at
 
 -- Damage
 
@@ -124,7 +124,7 @@ unfolding stepOf watched quiet
 waiting d w (happening.Request at q) e = received-waits (judged d w at) (watchdogRow d w at) at q (judged-waits d w at e)
 waiting d w (happening.Response at f) e = judged-waits d w at e
 waiting d w (happening.Clock at) e = judged-waits d w at e
-waiting d w (happening.Operator at setSD ack) e = judged-waits d w at e
+waiting d w (happening.Operator at «setSD_C» «ChFAck_C») e = judged-waits d w at e
 
 taken-there : (zero old wait : Bool) → wait ≡ true → zero ≡ false → old ≡ false → (not zero && wait && not old) ≡ true
 taken-there zero old wait a b c = simp (a, b, c)

@@ -16,18 +16,19 @@ use Rattle.fs_device.specs.declared.Row.{Row}
 use Rattle.fs_device.specs.declared.Row.the-variants.{Stay, T22, T25, T28, T29, T30, T31}
 use Rattle.fs_device.specs.Table40.{watchdogRow, isOld, isTaken, checked, arrivalRow, taken, t22, t25, t28, t29, t30t31, acted, firstDevice}
 use Rattle.fs_device.specs.Calls.{judged, quiet, arrived, received, watched, stepOf}
-use Rattle.fs_device.specs.History.{moved, movedHappening, movedDevice, movedOutcome}
+use Rattle.scl.specs.Moved.{moved, movedHappening}
+use Rattle.fs_device.specs.History.{movedDevice, movedOutcome}
 
 module _ (k : ℕ) where
-  moved-act : (d : Device) (r : Row) (at : ℕ) (setSD commErr : Bool) → acted (movedDevice k d) r (moved k at) setSD commErr ≡ movedDevice k (acted d r at setSD commErr)
+  moved-act : (d : Device) (r : Row) (at : ℕ) (setSD CommErr : Bool) → acted (movedDevice k d) r (moved k at) setSD CommErr ≡ movedDevice k (acted d r at setSD CommErr)
   unfolding movedDevice acted t22 t25 t28 t29 t30t31
-  moved-act d Stay at setSD commErr = refl
-  moved-act d T22 at setSD commErr = refl
-  moved-act d T25 at setSD commErr = refl
-  moved-act d T28 at setSD commErr = refl
-  moved-act d T29 at setSD commErr = refl
-  moved-act d T30 at setSD commErr = refl
-  moved-act d T31 at setSD commErr = refl
+  moved-act d Stay at setSD CommErr = refl
+  moved-act d T22 at setSD CommErr = refl
+  moved-act d T25 at setSD CommErr = refl
+  moved-act d T28 at setSD CommErr = refl
+  moved-act d T29 at setSD CommErr = refl
+  moved-act d T30 at setSD CommErr = refl
+  moved-act d T31 at setSD CommErr = refl
 
   moved-watchdog : (d : Device) (w at : ℕ) → d .DTimer < 2 ^ 32 → at < 2 ^ 32 → watchdogRow (movedDevice k d) w (moved k at) ≡ watchdogRow d w at
   unfolding movedDevice watchdogRow
@@ -45,9 +46,9 @@ module _ (k : ℕ) where
   unfolding quiet movedDevice movedOutcome
   moved-quiet d r old = refl
 
-  moved-arrival : (d : Device) (commErr : Bool) → arrivalRow (movedDevice k d) commErr ≡ arrivalRow d commErr
+  moved-arrival : (d : Device) (CommErr : Bool) → arrivalRow (movedDevice k d) CommErr ≡ arrivalRow d CommErr
   unfolding arrivalRow movedDevice
-  moved-arrival d commErr = refl
+  moved-arrival d CommErr = refl
 
   moved-released : (d : Device) → movedDevice k d .released ≡ d .released
   unfolding movedDevice
@@ -90,7 +91,7 @@ module _ (k : ℕ) where
       (moved-received (judged d w at) (watchdogRow d w at) at q)
   moved-step d w (happening.Response at f) fits reading-fits = moved-watched d w at fits reading-fits
   moved-step d w (happening.Clock at) fits reading-fits = moved-watched d w at fits reading-fits
-  moved-step d w (happening.Operator at setSD ack) fits reading-fits = moved-watched d w at fits reading-fits
+  moved-step d w (happening.Operator at «setSD_C» «ChFAck_C») fits reading-fits = moved-watched d w at fits reading-fits
 
 -- and so from the block on
 pub moved-first : (k at : ℕ) → firstDevice (moved k at) ≡ movedDevice k (firstDevice at)

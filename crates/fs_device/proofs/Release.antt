@@ -7,7 +7,7 @@ use mathlib.Core.List.{List, [], _∷_}
 use mathlib.Core.Logic.{_⊎_, inl, inr, ⊎-elim}
 use lib.Dec.{eqb}
 use borrow.Author.Tests.{eqb-true, not-true, not-false}
-use Rattle.scl.specs.Happenings.{checkOf, isFailure, handedOn}
+use Rattle.scl.specs.Happenings.{checkOf, isFailure, markOf}
 use Rattle.scl.specs.declared.Happening.{Happening}
 use Rattle.scl.specs.declared.Happening.the-variants as happening
 use Rattle.spdu.specs.declared.Mark.{Mark}
@@ -35,7 +35,7 @@ unfolding quiet
 quiet-not d r old {A} =
     cond-case (λ (m : Mark). m ≡ Fresh → A) (not (d .released)) (λ _ e. safe e) (λ _ e. goes-on e)
 
-fresh-released : (b : Bool) → handedOn true b ≡ Fresh → b ≡ true
+fresh-released : (b : Bool) → markOf true b ≡ Fresh → b ≡ true
 fresh-released true e = refl
 fresh-released false e = safe e
 
@@ -47,7 +47,7 @@ holds false p c e = no e
 
 -- what is asked of an SPDU that leads to a release: T22, no error, no cycles left, setSD 0
 abbrev Asked : Device → Request → Bool → Row → Type 0
-Asked d q commErr r = ((r ≡ T22) × ((commErr ≡ false) × ((d .SDcycles ≡ 0) × (q .setSD ≡ false)))) × (eqb (d .state) 26 ≡ false)
+Asked d q CommErr r = ((r ≡ T22) × ((CommErr ≡ false) × ((d .SDcycles ≡ 0) × (q .setSD ≡ false)))) × (eqb (d .state) 26 ≡ false)
 
 t22-asks : (n : ℕ) (set : Bool) → (not (not (eqb n 0)) && not set) ≡ true → (n ≡ 0) × (set ≡ false)
 t22-asks n set e = (
@@ -55,7 +55,7 @@ t22-asks n set e = (
   not-true set (and-right (not (not (eqb n 0))) (not set) e),
 )
 
-row-asks : (d : Device) (q : Request) (at : ℕ) (commErr : Bool) → acted (taken d q) (arrivalRow d commErr) at (q .setSD) commErr .released ≡ true → Asked d q commErr (arrivalRow d commErr)
+row-asks : (d : Device) (q : Request) (at : ℕ) (CommErr : Bool) → acted (taken d q) (arrivalRow d CommErr) at (q .setSD) CommErr .released ≡ true → Asked d q CommErr (arrivalRow d CommErr)
 unfolding arrivalRow acted taken t22 t25 t28 t29
 row-asks d q at true =
     cond-case (λ (r : Row). acted (taken d q) r at (q .setSD) true .released ≡ true → Asked d q true r) (eqb (d .state) 26)
@@ -69,8 +69,8 @@ row-asks d q at false =
 answered-fresh : (d : Device) (r : Row) (at : ℕ) (q : Request) → isTaken d q ≡ true → arrived d r at q (checked d q) .mark ≡ Fresh → Releases d q × (arrived d r at q (checked d q) .arrival ≡ T22)
 unfolding arrived checked
 answered-fresh d r at q t e =
-    let commErr = isFailure (checkOf (q .«signature_holds») (q .«port_holds») (countHolds d q)) in
-    let a : Asked d q commErr (arrivalRow d commErr) = row-asks d q at commErr (fresh-released (acted (taken d q) (arrivalRow d commErr) at (q .setSD) commErr .released) e) in
+    let CommErr = isFailure (checkOf (q .«signature_holds») (q .«port_holds») (countHolds d q)) in
+    let a : Asked d q CommErr (arrivalRow d CommErr) = row-asks d q at CommErr (fresh-released (acted (taken d q) (arrivalRow d CommErr) at (q .setSD) CommErr .released) e) in
     let h = holds (q .«signature_holds») (q .«port_holds») (countHolds d q) (a .0 .1 .0) in
     (record { taken = t; regular = a .1; signature = h .0; port = h .1 .0; count = h .1 .1; cycles = a .0 .1 .1 .0; not-set = a .0 .1 .1 .1 }, a .0 .0)
 
@@ -85,7 +85,7 @@ unfolding stepOf FreshBy watched
 fresh-only d w (happening.Request at q) e = received-fresh (judged d w at) (watchdogRow d w at) at q e
 fresh-only d w (happening.Response at f) e = quiet-not (judged d w at) (watchdogRow d w at) false e
 fresh-only d w (happening.Clock at) e = quiet-not (judged d w at) (watchdogRow d w at) false e
-fresh-only d w (happening.Operator at setSD ack) e = quiet-not (judged d w at) (watchdogRow d w at) false e
+fresh-only d w (happening.Operator at «setSD_C» «ChFAck_C») e = quiet-not (judged d w at) (watchdogRow d w at) false e
 
 arrived-fresh : (d : Device) (r : Row) (at : ℕ) (q : Request) → Releases d q → arrived d r at q (checked d q) .mark ≡ Fresh
 unfolding arrived checked arrivalRow acted taken t22
@@ -102,7 +102,7 @@ record Falls (d e : Device) (p : ℕ) : Type 0 where
   pub bound : e .SDcycles ≤ 3
   pub release : e .released ≡ true → (d .released ≡ true) ⊎ ((1 ≤ p) × (d .SDcycles ≡ 0))
 
-row-falls : (d : Device) (q : Request) (at : ℕ) (commErr : Bool) → d .SDcycles ≤ 3 → Falls d (acted (taken d q) (arrivalRow d commErr) at (q .setSD) commErr) (cond (not commErr) 1 0)
+row-falls : (d : Device) (q : Request) (at : ℕ) (CommErr : Bool) → d .SDcycles ≤ 3 → Falls d (acted (taken d q) (arrivalRow d CommErr) at (q .setSD) CommErr) (cond (not CommErr) 1 0)
 unfolding arrivalRow acted taken t22 t25 t28 t29
 row-falls d q at true b =
     cond-case (λ (r : Row). Falls d (acted (taken d q) r at (q .setSD) true) 0) (eqb (d .state) 26)
@@ -153,7 +153,7 @@ step-falls d w (happening.Response at f) b =
 step-falls d w (happening.Clock at) b =
     let j = judged-falls d w at b in
     then-falls j (quiet-falls (judged d w at) (watchdogRow d w at) false (j .bound))
-step-falls d w (happening.Operator at setSD ack) b =
+step-falls d w (happening.Operator at «setSD_C» «ChFAck_C») b =
     let j = judged-falls d w at b in
     then-falls j (quiet-falls (judged d w at) (watchdogRow d w at) false (j .bound))
 

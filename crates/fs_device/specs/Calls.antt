@@ -2,7 +2,7 @@
 use Prim.Native.Nat.{ℕ}
 use mathlib.Core.Bool.{Bool, true, false, cond, not, _&&_}
 use Rattle.scl.specs.Time.{expiredOf}
-use Rattle.scl.specs.Happenings.{isFailure, handedOn}
+use Rattle.scl.specs.Happenings.{isFailure, markOf}
 use Rattle.scl.specs.declared.Happening.{Happening}
 use Rattle.scl.specs.declared.Happening.the-variants as happening
 use Rattle.scl.specs.declared.Check.{Check}
@@ -18,7 +18,7 @@ use Rattle.fs_device.specs.Table40.{watchdogRow, isOld, isTaken, checked
 unfoldable pub judged : Device → ℕ → ℕ → Device
 judged d w at = acted d (watchdogRow d w at) at false false
 
--- no SPDU led to a row: the watchdog's row, and whether one came that was old
+-- no SPDU led to a row (R13a): the watchdog's row, and whether one came that was old
 unfoldable pub quiet : Device → Row → Bool → Outcome
 quiet d watchdog old = record {
   device = d;
@@ -27,7 +27,7 @@ quiet d watchdog old = record {
   check = check.None;
   old = old;
   passed = false;
-  mark = handedOn false (d .released);
+  mark = markOf false (d .released);
 }
 
 -- an SPDU that is taken (R18), with the check that failed first: guards read the count before it, actions the count that it gives
@@ -42,7 +42,7 @@ arrived d watchdog at q failed =
       check = failed;
       old = false;
       passed = not (isFailure failed);
-      mark = handedOn true (after .released);
+      mark = markOf true (after .released);
     }
 
 -- an SPDU received, at a device whose watchdog has been judged
@@ -53,15 +53,16 @@ received d watchdog at q = cond (isTaken d q) (arrived d watchdog at q (checked 
 unfoldable pub watched : Device → ℕ → ℕ → Outcome
 watched d w at = quiet (judged d w at) (watchdogRow d w at) false
 
+-- every happening judges the watchdog first (R11)
 unfoldable pub stepOf : Device → ℕ → Happening → Outcome
 stepOf d w (happening.Request at q) = received (judged d w at) (watchdogRow d w at) at q
 stepOf d w (happening.Response at response) = watched d w at
 stepOf d w (happening.Clock at) = watched d w at
-stepOf d w (happening.Operator at setSD ack) = watched d w at
+stepOf d w (happening.Operator at «setSD_C» «ChFAck_C») = watched d w at
 
 -- no SPDU came for the FS-Device and its watchdog is not over: the happening leaves it as it stands
 unfoldable pub stands : Device → ℕ → Happening → Bool
 stands d w (happening.Request at q) = false
 stands d w (happening.Response at response) = not (d .runs && expiredOf at (d .DTimer) w)
 stands d w (happening.Clock at) = not (d .runs && expiredOf at (d .DTimer) w)
-stands d w (happening.Operator at setSD ack) = not (d .runs && expiredOf at (d .DTimer) w)
+stands d w (happening.Operator at «setSD_C» «ChFAck_C») = not (d .runs && expiredOf at (d .DTimer) w)

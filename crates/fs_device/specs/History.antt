@@ -1,10 +1,11 @@
 -- What the rows come to, over the definitions of this folder: the words in which the theorems of proofs/ are stated. Assumes nothing.
-use Prim.Native.Nat.{ℕ, _+_, _%_, _^_}
+use Prim.Native.Nat.{ℕ, _+_}
 use mathlib.Core.Path.{_≡_}
 use mathlib.Core.Bool.{Bool, true, false, cond, _&&_, _||_}
 use lib.Dec.{eqb}
 use mathlib.Core.List.{List, [], _∷_}
 use Rattle.scl.specs.Counts.{inverted}
+use Rattle.scl.specs.Moved.{moved}
 use Rattle.scl.specs.declared.Happening.{Happening}
 use Rattle.scl.specs.declared.Happening.the-variants as happening
 use Rattle.spdu.specs.declared.Request.{Request}
@@ -29,7 +30,7 @@ unfoldable pub FreshBy : Device → ℕ → Happening → Type 0
 FreshBy d w (happening.Request at q) = Releases (judged d w at) q × (stepOf d w (happening.Request at q) .arrival ≡ T22)
 FreshBy d w (happening.Response at response) = ⊥
 FreshBy d w (happening.Clock at) = ⊥
-FreshBy d w (happening.Operator at setSD ack) = ⊥
+FreshBy d w (happening.Operator at «setSD_C» «ChFAck_C») = ⊥
 
 -- after a list of happenings
 unfoldable pub run : Device → ℕ → List Happening → Device
@@ -50,7 +51,7 @@ unfoldable pub lastTaken : Device → ℕ → Happening → ℕ
 lastTaken d w (happening.Request at q) = cond (isTaken (judged d w at) q) (q .MCount) (d .MCount)
 lastTaken d w (happening.Response at response) = d .MCount
 lastTaken d w (happening.Clock at) = d .MCount
-lastTaken d w (happening.Operator at setSD ack) = d .MCount
+lastTaken d w (happening.Operator at «setSD_C» «ChFAck_C») = d .MCount
 
 -- in one of the three waits
 abbrev pub waits : Device → Bool
@@ -61,15 +62,6 @@ abbrev pub sound : Device → Request → Bool
 sound d q = q .«signature_holds» && q .«port_holds» && countHolds d q
 
 -- all readings moved by k on the clock
-abbrev pub moved : ℕ → ℕ → ℕ
-moved k reading = (reading + k) % 2 ^ 32
-
-unfoldable pub movedHappening : ℕ → Happening → Happening
-movedHappening k (happening.Response at f) = happening.Response (moved k at) f
-movedHappening k (happening.Request at q) = happening.Request (moved k at) q
-movedHappening k (happening.Clock at) = happening.Clock (moved k at)
-movedHappening k (happening.Operator at setSD ack) = happening.Operator (moved k at) setSD ack
-
 unfoldable pub movedDevice : ℕ → Device → Device
 movedDevice k d = record {
   DTimer = moved k (d .DTimer);

@@ -65,8 +65,8 @@ checked d q = checkOf (q .«signature_holds») (q .«port_holds») (countHolds d
 
 -- state 22: "No CommErr" T22, "CommErr" T25. State 27: "No CommErr and SDcycles = 0" T28, "CommErr or SDcycles > 0" T29
 unfoldable pub arrivalRow : Device → Bool → Row
-arrivalRow d commErr =
-    cond (eqb (d .state) 26) (cond (commErr || not (eqb (d .SDcycles) 0)) T29 T28) (cond commErr T25 T22)
+arrivalRow d CommErr =
+    cond (eqb (d .state) 26) (cond (CommErr || not (eqb (d .SDcycles) 0)) T29 T28) (cond CommErr T25 T22)
 
 -- Actions
 
@@ -161,8 +161,8 @@ t28 d at = record {
 }
 
 unfoldable pub t29 : Device → ℕ → Bool → Device
-t29 d at commErr =
-    let errors = cond commErr 1 (d .CommErrCount) in
+t29 d at CommErr =
+    let errors = cond CommErr 1 (d .CommErrCount) in
     record {
       -- use PDin_D, use SDout, setSD_DC = 1, SDset = 1, DCount_i = MCount_inv, restart DTimer
       responded = true;
@@ -174,7 +174,7 @@ t29 d at commErr =
       runs = true;
       -- if CommErr then DCommErr = 1, CommErrCount = 1, SDcycles = 3 else SDcycles = SDcycles - 1;
       -- if CommErrCount = 1 then DCommErr = 1, CommErrCount = 0 else DCommErr = 0 (over the CommErrCount that the first left, R20)
-      SDcycles = cond commErr 3 (d .SDcycles - 1);
+      SDcycles = cond CommErr 3 (d .SDcycles - 1);
       DCommErr = eqb errors 1;
       CommErrCount = cond (eqb errors 1) 0 errors;
       -- if TimeoutCount = 1 then DTimeout = 1, TimeoutCount = 0 else DTimeout = 0
@@ -212,13 +212,13 @@ t30t31 d at = record {
 
 -- the row's action, at the call's reading, with the setSD and the CommErr of the SPDU where there is one
 unfoldable pub acted : Device → Row → ℕ → Bool → Bool → Device
-acted d Stay at setSD commErr = d
-acted d T22 at setSD commErr = t22 d at setSD
-acted d T25 at setSD commErr = t25 d at
-acted d T28 at setSD commErr = t28 d at
-acted d T29 at setSD commErr = t29 d at commErr
-acted d T30 at setSD commErr = t30t31 d at
-acted d T31 at setSD commErr = t30t31 d at
+acted d Stay at setSD CommErr = d
+acted d T22 at setSD CommErr = t22 d at setSD
+acted d T25 at setSD CommErr = t25 d at
+acted d T28 at setSD CommErr = t28 d at
+acted d T29 at setSD CommErr = t29 d at CommErr
+acted d T30 at setSD CommErr = t30t31 d at
+acted d T31 at setSD CommErr = t30t31 d at
 
 -- the number that stands for a row outside: 000's, and 0 for none
 abbrev pub rowNumberOf : Row → ℕ

@@ -26,7 +26,7 @@ fn quiet(d: Device, watchdog: Row, old: bool) -> Outcome
         check: Check::None,
         old,
         passed: false,
-        mark: scl::handed_on(false, d.released),
+        mark: scl::mark_of(false, d.released),
     }
 }
 
@@ -43,7 +43,7 @@ fn arrived(d: Device, watchdog: Row, at: u32, q: Request, failed: Check) -> Outc
         check: failed,
         old: false,
         passed: !CommErr,
-        mark: scl::handed_on(true, after.released),
+        mark: scl::mark_of(true, after.released),
     }
 }
 

@@ -101,13 +101,13 @@ judged-ack : (m : Master) (w at : ℕ) → judged m w at .«ChFAck_C» ≡ m .«
 unfolding judged acted t8 t14
 judged-ack m w at = timeout-case (λ (r : Row). acted m r at false .«ChFAck_C» ≡ m .«ChFAck_C») m w at refl (λ _. refl) (λ _. refl)
 
-signalled-unacknowledged : (m : Master) (setSD ack : Bool) → Unacknowledged m → Unacknowledged (signalled m setSD ack)
+signalled-unacknowledged : (m : Master) («setSD_C» «ChFAck_C» : Bool) → Unacknowledged m → Unacknowledged (signalled m «setSD_C» «ChFAck_C»)
 unfolding signalled
-signalled-unacknowledged m setSD ack u = record { in7 = u .in7; edge = u .edge; safe = u .safe }
+signalled-unacknowledged m «setSD_C» «ChFAck_C» u = record { in7 = u .in7; edge = u .edge; safe = u .safe }
 
-signalled-armed : (m : Master) (setSD ack : Bool) → Armed m → Armed (signalled m setSD ack)
+signalled-armed : (m : Master) («setSD_C» «ChFAck_C» : Bool) → Armed m → Armed (signalled m «setSD_C» «ChFAck_C»)
 unfolding signalled
-signalled-armed m setSD ack u = record { in7 = u .in7; edge = u .edge; safe = u .safe }
+signalled-armed m «setSD_C» «ChFAck_C» u = record { in7 = u .in7; edge = u .edge; safe = u .safe }
 
 -- One call: still no edge awaited, or a T13 while ChFAck_C is 0.
 pub step-unacknowledged : (m : Master) (w : ℕ) (h : Happening) → Unacknowledged m → FromUnacknowledged m (stepOf m w h .arrival) (stepOf m w h .master)
@@ -117,7 +117,7 @@ step-unacknowledged m w (happening.Response at f) u =
     (received-unacknowledged (judged m w at) (watchdogRow m w at) at f (judged-unacknowledged m w at u))
 step-unacknowledged m w (happening.Request at q) u = inl (judged-unacknowledged m w at u)
 step-unacknowledged m w (happening.Clock at) u = inl (judged-unacknowledged m w at u)
-step-unacknowledged m w (happening.Operator at setSD ack) u = inl (signalled-unacknowledged (judged m w at) setSD ack (judged-unacknowledged m w at u))
+step-unacknowledged m w (happening.Operator at «setSD_C» «ChFAck_C») u = inl (signalled-unacknowledged (judged m w at) «setSD_C» «ChFAck_C» (judged-unacknowledged m w at u))
 
 -- One call: an edge still awaited, or a fault again, or a T13 after one, or a T11 with ChFAck_C 1.
 abbrev Next : Master → Row → Master → Type 0
@@ -138,9 +138,9 @@ quiet-next : (m : Master) {r : Row} {n : Master} → Armed n ⊎ Unacknowledged 
 quiet-next m (inl a) = inr (inl a)
 quiet-next m (inr u) = inl (inl u)
 
-signalled-either : (m : Master) (setSD ack : Bool) → Armed m ⊎ Unacknowledged m → Armed (signalled m setSD ack) ⊎ Unacknowledged (signalled m setSD ack)
-signalled-either m setSD ack (inl a) = inl (signalled-armed m setSD ack a)
-signalled-either m setSD ack (inr u) = inr (signalled-unacknowledged m setSD ack u)
+signalled-either : (m : Master) («setSD_C» «ChFAck_C» : Bool) → Armed m ⊎ Unacknowledged m → Armed (signalled m «setSD_C» «ChFAck_C») ⊎ Unacknowledged (signalled m «setSD_C» «ChFAck_C»)
+signalled-either m «setSD_C» «ChFAck_C» (inl a) = inl (signalled-armed m «setSD_C» «ChFAck_C» a)
+signalled-either m «setSD_C» «ChFAck_C» (inr u) = inr (signalled-unacknowledged m «setSD_C» «ChFAck_C» u)
 
 pub step-armed : (m : Master) (w : ℕ) (h : Happening) → Armed m → Next m (stepOf m w h .arrival) (stepOf m w h .master)
 unfolding stepOf watched operated quiet
@@ -151,7 +151,7 @@ step-armed m w (happening.Response at f) a =
     (judged-armed m w at a))
 step-armed m w (happening.Request at q) a = quiet-next m (judged-armed m w at a)
 step-armed m w (happening.Clock at) a = quiet-next m (judged-armed m w at a)
-step-armed m w (happening.Operator at setSD ack) a = quiet-next m (signalled-either (judged m w at) setSD ack (judged-armed m w at a))
+step-armed m w (happening.Operator at «setSD_C» «ChFAck_C») a = quiet-next m (signalled-either (judged m w at) «setSD_C» «ChFAck_C» (judged-armed m w at a))
 
 mutual-unacknowledged : (w : ℕ) (hs : List Happening) → ((m : Master) → Unacknowledged m → run m w hs .released ≡ true → Acknowledged w m hs) × ((m : Master) → Armed m → run m w hs .released ≡ true → Answered w m hs ⊎ Acknowledged w m hs)
 unfolding run

@@ -58,7 +58,7 @@ count-by m w (happening.Response at f) =
     (received-count (judged m w at) (watchdogRow m w at) at f ∙ ap (countBy (received (judged m w at) (watchdogRow m w at) at f .arrival)) (judged-count m w at))
 count-by m w (happening.Request at q) = judged-count m w at
 count-by m w (happening.Clock at) = judged-count m w at
-count-by m w (happening.Operator at setSD ack) = judged-count m w at
+count-by m w (happening.Operator at «setSD_C» «ChFAck_C») = judged-count m w at
 
 below : (n : ℕ) → countAfter n ≤ 7
 below n =
@@ -130,9 +130,9 @@ unfolding received arrived quiet
 received-held m r at f h =
     cond-case (λ (o : Outcome). Held (o .master)) (isTaken m f) (λ _. row-held m f at (hasFaults (isFailure (checked m f)) f) h) (λ _. h)
 
-signalled-held : (m : Master) (setSD ack : Bool) → Held m → Held (signalled m setSD ack)
+signalled-held : (m : Master) («setSD_C» «ChFAck_C» : Bool) → Held m → Held (signalled m «setSD_C» «ChFAck_C»)
 unfolding signalled
-signalled-held m setSD ack h = record { rests = h .rests; shown = h .shown; same = h .same; no-request = h .no-request; no-edge = h .no-edge }
+signalled-held m «setSD_C» «ChFAck_C» h = record { rests = h .rests; shown = h .shown; same = h .same; no-request = h .no-request; no-edge = h .no-edge }
 
 pub first-held : (at : ℕ) → Held (firstMaster at)
 first-held at = record { rests = refl; shown = refl; same = refl; no-request = λ _. refl; no-edge = λ _. refl }
@@ -142,4 +142,4 @@ unfolding stepOf watched operated quiet
 held m w (happening.Response at f) i = received-held (judged m w at) (watchdogRow m w at) at f (judged-held m w at i)
 held m w (happening.Request at q) i = judged-held m w at i
 held m w (happening.Clock at) i = judged-held m w at i
-held m w (happening.Operator at setSD ack) i = signalled-held (judged m w at) setSD ack (judged-held m w at i)
+held m w (happening.Operator at «setSD_C» «ChFAck_C») i = signalled-held (judged m w at) «setSD_C» «ChFAck_C» (judged-held m w at i)

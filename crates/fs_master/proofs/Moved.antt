@@ -16,7 +16,8 @@ use Rattle.fs_master.specs.declared.Row.{Row}
 use Rattle.fs_master.specs.declared.Row.the-variants.{Stay, T4, T7, T8, T11, T12, T13, T14}
 use Rattle.fs_master.specs.Calls.{judged, quiet, arrived, received, watched, operated, stepOf}
 use Rattle.fs_master.specs.Table38.{watchdogRow, isOld, isTaken, hasFaults, checked, from8, arrivalRow, taken, sampleFrom, t4, t7, t8, t11, t12, t13, t14, acted, signalled, firstMaster}
-use Rattle.fs_master.specs.History.{moved, movedHappening, movedMaster, movedOutcome}
+use Rattle.scl.specs.Moved.{moved, movedHappening}
+use Rattle.fs_master.specs.History.{movedMaster, movedOutcome}
 
 module _ (k : ℕ) where
   moved-sample : (m : Master) (count at : ℕ) → sampleFrom (movedMaster k m) count (moved k at) ≡ moved k (sampleFrom m count at)
@@ -87,15 +88,15 @@ module _ (k : ℕ) where
       rw (moved-judged m w at fits reading-fits, moved-watchdog m w at fits reading-fits)
       (moved-quiet (judged m w at) (watchdogRow m w at) false)
 
-  moved-signalled : (m : Master) (setSD ack : Bool) → signalled (movedMaster k m) setSD ack ≡ movedMaster k (signalled m setSD ack)
+  moved-signalled : (m : Master) («setSD_C» «ChFAck_C» : Bool) → signalled (movedMaster k m) «setSD_C» «ChFAck_C» ≡ movedMaster k (signalled m «setSD_C» «ChFAck_C»)
   unfolding signalled movedMaster
-  moved-signalled m setSD ack = refl
+  moved-signalled m «setSD_C» «ChFAck_C» = refl
 
-  moved-operated : (m : Master) (w at : ℕ) (setSD ack : Bool) → m .MTimer < 2 ^ 32 → at < 2 ^ 32 → operated (movedMaster k m) w (moved k at) setSD ack ≡ movedOutcome k (operated m w at setSD ack)
+  moved-operated : (m : Master) (w at : ℕ) («setSD_C» «ChFAck_C» : Bool) → m .MTimer < 2 ^ 32 → at < 2 ^ 32 → operated (movedMaster k m) w (moved k at) «setSD_C» «ChFAck_C» ≡ movedOutcome k (operated m w at «setSD_C» «ChFAck_C»)
   unfolding operated
-  moved-operated m w at setSD ack fits reading-fits =
-      rw (moved-judged m w at fits reading-fits, moved-watchdog m w at fits reading-fits, moved-signalled (judged m w at) setSD ack)
-      (moved-quiet (signalled (judged m w at) setSD ack) (watchdogRow m w at) false)
+  moved-operated m w at «setSD_C» «ChFAck_C» fits reading-fits =
+      rw (moved-judged m w at fits reading-fits, moved-watchdog m w at fits reading-fits, moved-signalled (judged m w at) «setSD_C» «ChFAck_C»)
+      (moved-quiet (signalled (judged m w at) «setSD_C» «ChFAck_C») (watchdogRow m w at) false)
 
   -- Moving the stored readings and the happening's by the same amount on the clock moves the stored readings afterwards, and nothing else.
   pub moved-step : (m : Master) (w : ℕ) (h : Happening) → m .MTimer < 2 ^ 32 → readingOf h < 2 ^ 32 → stepOf (movedMaster k m) w (movedHappening k h) ≡ movedOutcome k (stepOf m w h)
@@ -105,7 +106,7 @@ module _ (k : ℕ) where
       (moved-received (judged m w at) (watchdogRow m w at) at f)
   moved-step m w (happening.Request at q) fits reading-fits = moved-watched m w at fits reading-fits
   moved-step m w (happening.Clock at) fits reading-fits = moved-watched m w at fits reading-fits
-  moved-step m w (happening.Operator at setSD ack) fits reading-fits = moved-operated m w at setSD ack fits reading-fits
+  moved-step m w (happening.Operator at «setSD_C» «ChFAck_C») fits reading-fits = moved-operated m w at «setSD_C» «ChFAck_C» fits reading-fits
 
 -- and so from the block on
 pub moved-first : (k at : ℕ) → firstMaster (moved k at) ≡ movedMaster k (firstMaster at)

@@ -7,7 +7,7 @@ use mathlib.Core.List.{List, [], _∷_}
 use mathlib.Core.Logic.{_⊎_, inl, inr, ⊎-elim}
 use lib.Dec.{eqb}
 use borrow.Author.Tests.{not-true}
-use Rattle.scl.specs.Happenings.{checkOf, isFailure, handedOn}
+use Rattle.scl.specs.Happenings.{checkOf, isFailure, markOf}
 use Rattle.scl.specs.declared.Happening.{Happening}
 use Rattle.scl.specs.declared.Happening.the-variants as happening
 use Rattle.spdu.specs.declared.Mark.{Mark}
@@ -35,7 +35,7 @@ unfolding quiet
 quiet-not m r old {A} =
     cond-case (λ (x : Mark). x ≡ Fresh → A) (not (m .released)) (λ _ e. safe e) (λ _ e. goes-on e)
 
-fresh-released : (b : Bool) → handedOn true b ≡ Fresh → b ≡ true
+fresh-released : (b : Bool) → markOf true b ≡ Fresh → b ≡ true
 fresh-released true e = refl
 fresh-released false e = safe e
 
@@ -66,17 +66,17 @@ row-asks m f at faults =
 answered-fresh : (m : Master) (r : Row) (at : ℕ) (f : Response) → isTaken m f ≡ true → arrived m r at f (checked m f) .mark ≡ Fresh → Releases m f × (arrived m r at f (checked m f) .arrival ≡ releasingRow m)
 unfolding arrived checked
 answered-fresh m r at f t e =
-    let commErr = isFailure (checkOf (f .«signature_holds») (f .«port_holds») (isExpected m f)) in
-    let faults = hasFaults commErr f in
+    let MCommErr = isFailure (checkOf (f .«signature_holds») (f .«port_holds») (isExpected m f)) in
+    let faults = hasFaults MCommErr f in
     let a : Asked m f faults (arrivalRow m faults) = row-asks m f at faults (fresh-released (acted (taken m f) (arrivalRow m faults) at (f .SDset) .released) e) in
-    let h = holds (f .«signature_holds») (f .«port_holds») (isExpected m f) (or-left commErr (f .DCommErr) (or-left (commErr || f .DCommErr) (f .DTimeout) (a .none))) in (
+    let h = holds (f .«signature_holds») (f .«port_holds») (isExpected m f) (or-left MCommErr (f .DCommErr) (or-left (MCommErr || f .DCommErr) (f .DTimeout) (a .none))) in (
       record {
         taken = t;
         signature = h .0;
         port = h .1 .0;
         count = h .1 .1;
-        no-error = or-right commErr (f .DCommErr) (or-left (commErr || f .DCommErr) (f .DTimeout) (a .none));
-        no-timeout = or-right (commErr || f .DCommErr) (f .DTimeout) (a .none);
+        no-error = or-right MCommErr (f .DCommErr) (or-left (MCommErr || f .DCommErr) (f .DTimeout) (a .none));
+        no-timeout = or-right (MCommErr || f .DCommErr) (f .DTimeout) (a .none);
         not-set = a .not-set;
         not-asked = a .not-asked;
         acknowledged = a .acknowledged;
@@ -95,7 +95,7 @@ unfolding stepOf FreshBy watched operated
 fresh-only m w (happening.Response at f) e = received-fresh (judged m w at) (watchdogRow m w at) at f e
 fresh-only m w (happening.Request at q) e = quiet-not (judged m w at) (watchdogRow m w at) false e
 fresh-only m w (happening.Clock at) e = quiet-not (judged m w at) (watchdogRow m w at) false e
-fresh-only m w (happening.Operator at setSD ack) e = quiet-not (signalled (judged m w at) setSD ack) (watchdogRow m w at) false e
+fresh-only m w (happening.Operator at «setSD_C» «ChFAck_C») e = quiet-not (signalled (judged m w at) «setSD_C» «ChFAck_C») (watchdogRow m w at) false e
 
 fresh-row : (m : Master) (f : Response) (at : ℕ) → Releases m f → acted (taken m f) (arrivalRow m false) at (f .SDset) .released ≡ true
 unfolding acted taken t4 t7 t11 t12 t13
@@ -122,7 +122,7 @@ unfolding judged acted t8 t14
 judged-released m w at =
     timeout-case (λ (r : Row). acted m r at false .released ≡ true → m .released ≡ true) m w at (λ e. e) (λ _ e. no (cc)) (λ _ e. no (cc))
 
-handed-fresh : (b : Bool) → b ≡ true → handedOn true b ≡ Fresh
+handed-fresh : (b : Bool) → b ≡ true → markOf true b ≡ Fresh
 handed-fresh b e = simp e
 
 received-released : (m : Master) (r : Row) (at : ℕ) (f : Response) → received m r at f .master .released ≡ true → (received m r at f .mark ≡ Fresh) ⊎ (m .released ≡ true)
@@ -136,7 +136,7 @@ unfolding stepOf watched operated quiet signalled
 release-begins m w (happening.Response at f) e = ⊎-elim (λ x. inl x) (λ j. inr (judged-released m w at j)) (received-released (judged m w at) (watchdogRow m w at) at f e)
 release-begins m w (happening.Request at q) e = inr (judged-released m w at e)
 release-begins m w (happening.Clock at) e = inr (judged-released m w at e)
-release-begins m w (happening.Operator at setSD ack) e = inr (judged-released m w at e)
+release-begins m w (happening.Operator at «setSD_C» «ChFAck_C») e = inr (judged-released m w at e)
 
 passed-there : (m : Master) (r : Row) (at : ℕ) (f : Response) → Releases m f → received m r at f .passed ≡ true
 unfolding received arrived checked
@@ -147,7 +147,7 @@ unfolding stepOf FreshBy
 fresh-passed m w (happening.Response at f) c = passed-there (judged m w at) (watchdogRow m w at) at f (c .0)
 fresh-passed m w (happening.Request at q) c = absurd c
 fresh-passed m w (happening.Clock at) c = absurd c
-fresh-passed m w (happening.Operator at setSD ack) c = absurd c
+fresh-passed m w (happening.Operator at «setSD_C» «ChFAck_C») c = absurd c
 
 one-pass : (passed : Bool) (n : ℕ) → passed ≡ true → 0 < cond passed 1 0 + n
 one-pass true n e = omega arith

@@ -59,7 +59,7 @@ unfolding stepOf watched operated quiet signalled
 step-start m w (happening.Response at f) = received-start (judged m w at) (watchdogRow m w at) at f
 step-start m w (happening.Request at q) = stays (judged m w at) at
 step-start m w (happening.Clock at) = stays (judged m w at) at
-step-start m w (happening.Operator at setSD ack) = stays (judged m w at) at
+step-start m w (happening.Operator at «setSD_C» «ChFAck_C») = stays (judged m w at) at
 
 -- ---- the watchdog's row
 
@@ -72,7 +72,7 @@ unfolding stepOf watched operated quiet
 step-watchdog m w (happening.Response at f) = received-watchdog (judged m w at) (watchdogRow m w at) at f
 step-watchdog m w (happening.Request at q) = refl
 step-watchdog m w (happening.Clock at) = refl
-step-watchdog m w (happening.Operator at setSD ack) = refl
+step-watchdog m w (happening.Operator at «setSD_C» «ChFAck_C») = refl
 
 -- ---- what passes
 

@@ -1,7 +1,7 @@
 -- One happening at the FS-Master: the watchdog is judged with its reading, then an SPDU that came for this end. Assumes nothing.
 use Prim.Native.Nat.{ℕ}
 use mathlib.Core.Bool.{Bool, true, false, cond, not}
-use Rattle.scl.specs.Happenings.{isFailure, handedOn}
+use Rattle.scl.specs.Happenings.{isFailure, markOf}
 use Rattle.scl.specs.declared.Happening.{Happening}
 use Rattle.scl.specs.declared.Happening.the-variants as happening
 use Rattle.scl.specs.declared.Check.{Check}
@@ -17,7 +17,7 @@ use Rattle.fs_master.specs.Table38.{watchdogRow, isOld, isTaken, checked
 unfoldable pub judged : Master → ℕ → ℕ → Master
 judged m w at = acted m (watchdogRow m w at) at false
 
--- no SPDU led to a row: the watchdog's row, and whether one came that was old
+-- no SPDU led to a row (R13a): the watchdog's row, and whether one came that was old
 unfoldable pub quiet : Master → Row → Bool → Outcome
 quiet m watchdog old = record {
   master = m;
@@ -26,7 +26,7 @@ quiet m watchdog old = record {
   check = check.None;
   old = old;
   passed = false;
-  mark = handedOn false (m .released);
+  mark = markOf false (m .released);
 }
 
 -- an SPDU that is taken (R14), with the check that failed first; it passes where none did (R14a)
@@ -41,7 +41,7 @@ arrived m watchdog at f failed =
       check = failed;
       old = isOld m f;
       passed = not (isFailure failed);
-      mark = handedOn true (after .released);
+      mark = markOf true (after .released);
     }
 
 -- an SPDU received, at a master whose watchdog has been judged
@@ -53,10 +53,11 @@ unfoldable pub watched : Master → ℕ → ℕ → Outcome
 watched m w at = quiet (judged m w at) (watchdogRow m w at) false
 
 unfoldable pub operated : Master → ℕ → ℕ → Bool → Bool → Outcome
-operated m w at setSD ack = quiet (signalled (judged m w at) setSD ack) (watchdogRow m w at) false
+operated m w at «setSD_C» «ChFAck_C» = quiet (signalled (judged m w at) «setSD_C» «ChFAck_C») (watchdogRow m w at) false
 
+-- every happening judges the watchdog first (R11)
 unfoldable pub stepOf : Master → ℕ → Happening → Outcome
 stepOf m w (happening.Response at f) = received (judged m w at) (watchdogRow m w at) at f
 stepOf m w (happening.Request at request) = watched m w at
 stepOf m w (happening.Clock at) = watched m w at
-stepOf m w (happening.Operator at setSD ack) = operated m w at setSD ack
+stepOf m w (happening.Operator at «setSD_C» «ChFAck_C») = operated m w at «setSD_C» «ChFAck_C»

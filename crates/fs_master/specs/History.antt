@@ -1,10 +1,11 @@
 -- What the rows come to, over the definitions of this folder: the words in which the theorems of proofs/ are stated. Assumes nothing.
-use Prim.Native.Nat.{ℕ, _+_, _%_, _^_}
+use Prim.Native.Nat.{ℕ, _+_}
 use mathlib.Core.Path.{_≡_}
 use mathlib.Core.Bool.{Bool, true, false, cond, not, _&&_, _||_}
 use mathlib.Core.List.{List, [], _∷_}
 use lib.Dec.{eqb}
 use Rattle.scl.specs.Counts.{countAfter}
+use Rattle.scl.specs.Moved.{moved}
 use Rattle.scl.specs.declared.Happening.{Happening}
 use Rattle.scl.specs.declared.Happening.the-variants as happening
 use Rattle.spdu.specs.declared.Response.{Response}
@@ -36,7 +37,7 @@ FreshBy m w (happening.Response at f) =
     Releases (judged m w at) f × (stepOf m w (happening.Response at f) .arrival ≡ releasingRow (judged m w at))
 FreshBy m w (happening.Request at request) = ⊥
 FreshBy m w (happening.Clock at) = ⊥
-FreshBy m w (happening.Operator at setSD ack) = ⊥
+FreshBy m w (happening.Operator at «setSD_C» «ChFAck_C») = ⊥
 
 -- after a list of happenings
 unfoldable pub run : Master → ℕ → List Happening → Master
@@ -70,7 +71,7 @@ pub data Acknowledged (w : ℕ) : Master → List Happening → Type 0 where
   asked-here : {m : Master} {h : Happening} {hs : List Happening} → stepOf m w h .arrival ≡ T13 → m .«ChFAck_C» ≡ false → Answered w (stepOf m w h .master) hs → Acknowledged w m (h ∷ hs)
   asked-later : {m : Master} {h : Happening} {hs : List Happening} → Acknowledged w (stepOf m w h .master) hs → Acknowledged w m (h ∷ hs)
 
--- 000 Table 33: what a row makes of MCount
+-- what a row of 000 Table 38 makes of MCount
 unfoldable pub countBy : Row → ℕ → ℕ
 countBy Stay count = count
 countBy T4 count = countAfter count
@@ -98,15 +99,6 @@ abbrev pub sound : Master → Response → Bool
 sound m f = f .«signature_holds» && f .«port_holds» && isExpected m f
 
 -- all readings moved by k on the clock
-abbrev pub moved : ℕ → ℕ → ℕ
-moved k reading = (reading + k) % 2 ^ 32
-
-unfoldable pub movedHappening : ℕ → Happening → Happening
-movedHappening k (happening.Response at f) = happening.Response (moved k at) f
-movedHappening k (happening.Request at q) = happening.Request (moved k at) q
-movedHappening k (happening.Clock at) = happening.Clock (moved k at)
-movedHappening k (happening.Operator at setSD ack) = happening.Operator (moved k at) setSD ack
-
 unfoldable pub movedMaster : ℕ → Master → Master
 movedMaster k m = record {
   MTimer = moved k (m .MTimer);

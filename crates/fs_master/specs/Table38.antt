@@ -70,7 +70,7 @@ checked m f = checkOf (f .«signature_holds») (f .«port_holds») (isExpected m
 
 -- FAULTS (Table 37; R15): MCommErr, DCommErr, DTimeout
 abbrev pub hasFaults : Bool → Response → Bool
-hasFaults commErr f = commErr || f .DCommErr || f .DTimeout
+hasFaults MCommErr f = MCommErr || f .DCommErr || f .DTimeout
 
 -- state 8: FAULTS T12; else with ChFAck_C = 1 and ChFAck_C_e = 1 T11, else T13 (R16)
 unfoldable pub from8 : Master → Bool → Row
@@ -295,9 +295,9 @@ acted m T14 at SDset = t14 m at
 
 -- Operator signals hold until the next operator happening (01), and act where a row reads them (R17a)
 unfoldable pub signalled : Master → Bool → Bool → Master
-signalled m setSD ack = record {
-  «setSD_C» = setSD;
-  «ChFAck_C» = ack;
+signalled m «setSD_C» «ChFAck_C» = record {
+  «setSD_C» = «setSD_C»;
+  «ChFAck_C» = «ChFAck_C»;
   state = m .state;
   MCount = m .MCount;
   setSD = m .setSD;

@@ -28,7 +28,7 @@ fn quiet(m: Master, watchdog: Row, old: bool) -> Outcome
         check: Check::None,
         old,
         passed: false,
-        mark: scl::handed_on(false, m.released),
+        mark: scl::mark_of(false, m.released),
     }
 }
 
@@ -45,7 +45,7 @@ fn arrived(m: Master, watchdog: Row, at: u32, f: Response, failed: Check) -> Out
         check: failed,
         old: is_old(m, f),
         passed: !MCommErr,
-        mark: scl::handed_on(true, after.released),
+        mark: scl::mark_of(true, after.released),
     }
 }
 

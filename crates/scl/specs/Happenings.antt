@@ -13,7 +13,7 @@ abbrev pub readingOf : Happening → ℕ
 readingOf (happening.Response at response) = at
 readingOf (happening.Request at request) = at
 readingOf (happening.Clock at) = at
-readingOf (happening.Operator at setSD ack) = at
+readingOf (happening.Operator at «setSD_C» «ChFAck_C») = at
 
 -- The checks in their order (R13): signature, port number, count; of each whether it holds.
 abbrev pub checkOf : Bool → Bool → Bool → Check
@@ -29,8 +29,8 @@ isFailure check.Count = true
 
 -- 01: safe values where the end does not release; else what this call's SPDU led to, or an empty part where no SPDU led to a row and earlier
 -- values stay released (R13a, R26)
-abbrev pub handedOn : Bool → Bool → Mark
-handedOn rowTaken released = cond (not released) Safe (cond rowTaken Fresh GoesOn)
+abbrev pub markOf : Bool → Bool → Mark
+markOf rowTaken released = cond (not released) Safe (cond rowTaken Fresh GoesOn)
 
 -- the numbers that stand for them outside
 abbrev pub markNumberOf : Mark → ℕ

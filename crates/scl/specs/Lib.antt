@@ -1,3 +1,4 @@
 pub mod Time
 pub mod Counts
 pub mod Happenings
+pub mod Moved

@@ -2,7 +2,7 @@
 ghost use mathlib.Core.Path.{_≡_};
 ghost use Rattle.scl.specs.Time.{elapsedOf, expiredOf};
 ghost use Rattle.scl.specs.Counts.{countAfter, inverted};
-ghost use Rattle.scl.specs.Happenings.{readingOf, markNumberOf, checkNumberOf, checkOf, isFailure, handedOn};
+ghost use Rattle.scl.specs.Happenings.{readingOf, markNumberOf, checkNumberOf, checkOf, isFailure, markOf};
 use spdu::Mark;
 use spdu::Request;
 use spdu::Response;
@@ -91,8 +91,8 @@ pub fn is_failure(check: Check) -> bool
 }
 
 // What an end hands on, after a call in which an SPDU led to a row or not.
-pub fn handed_on(row_taken: bool, released: bool) -> Mark
-    ensures { λ r. ⌜ r ≡ handedOn «row_taken» released ⌝ }
+pub fn mark_of(row_taken: bool, released: bool) -> Mark
+    ensures { λ r. ⌜ r ≡ markOf «row_taken» released ⌝ }
 {
     if !released {
         return Mark::Safe;

@@ -40,7 +40,7 @@ movedAt m q k xm xq h = movedOf (getD m k xm) (watchdogAt q k xq) h
 
 abbrev talliedAt : List Master → List Params → List Totals → List (List ℕ) → ℕ → Master → Params → Totals → Happening → Histogram
 talliedAt m q t b k xm xq xt h =
-    tallied (withBins (getD t k xt) (getD b k [])) (watchdogAt q k xq) (movedAt m q k xm xq h .passes) (movedAt m q k xm xq h .t)
+    tallied (withBins (getD t k xt) (getD b k [])) (watchdogAt q k xq) (movedAt m q k xm xq h .«passes_anew») (movedAt m q k xm xq h .t)
 
 module _ (r : List Bool) (q : List Params) (m : List Master) (d : List Device) (t : List Totals) (b : List (List ℕ)) (k at : ℕ) where
   pub record Acted (r′ : List Bool) (q′ : List Params) (m′ : List Master) (d′ : List Device) (t′ : List Totals) (b′ : List (List ℕ)) (a : Act) : Type 0 where

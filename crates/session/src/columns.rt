@@ -66,14 +66,14 @@ pub(crate) fn tally(
     k: usize,
     totals: Totals,
     w: u16,
-    passes: bool,
+    passes_anew: bool,
     t: u32,
 ) -> Totals
     requires { ⌜ k < 8 ⌝ }
-    ensures { λ r. ⌜ r ≡ totalsOf (ports.tallied (withBins totals (getD (now (bins .entry)) k [])) w passes t) ⌝ }
-    ensures { λ _. ⌜ now (bins .exit) ≡ set (now (bins .entry)) k (ports.tallied (withBins totals (getD (now (bins .entry)) k [])) w passes t .bins) ⌝ }
+    ensures { λ r. ⌜ r ≡ totalsOf (ports.tallied (withBins totals (getD (now (bins .entry)) k [])) w «passes_anew» t) ⌝ }
+    ensures { λ _. ⌜ now (bins .exit) ≡ set (now (bins .entry)) k (ports.tallied (withBins totals (getD (now (bins .entry)) k [])) w «passes_anew» t .bins) ⌝ }
 {
-    if passes {
+    if passes_anew {
         if t <= w as u32 {
             if totals.total != LIMIT {
                 let i = histogram::bin(w, t);

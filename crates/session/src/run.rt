@@ -184,7 +184,7 @@ fn take_records(
                             devices[k] = device;
                         }
                         let t = totals[k];
-                        let after = tally(&mut bins, k, t, w, moved.passes, moved.t);
+                        let after = tally(&mut bins, k, t, w, moved.passes_anew, moved.t);
                         totals[k] = after;
                     }
                 }

@@ -5,7 +5,7 @@ use Rattle.fs_master.proofs.calls.quiet.Tie as tie
 
 returns : tie.Need-returns
 unfolding quiet
-returns c = simp (c .handed-on .ensures)
+returns c = simp (c .mark-of .ensures)
 
 pub quiet-spec : {M : Type 1} → statement M
 quiet-spec = tie.close (tie.spec (λ c κs. search needs) returns)

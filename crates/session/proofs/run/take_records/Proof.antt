@@ -173,8 +173,8 @@ loop-again c =
     (λ v. v .3 ∙ ap (λ (y : Outcome). set (l .devices) at (y .device)) (v .1 .ensures))
     (λ v. v .1 ∙ device-stored (l .devices) at _ (q .«FSP_WatchdogTime») h (sym (w .7 .ensures) ∙ not-false _ (v .0 .left)))
     (w .8 .came))
-    (w .16 ∙ ap (λ (y : Totals). set (l .totals) at y) (tally .0 ∙ ap (λ (y : Moved). totalsOf (tallied old (q .«FSP_WatchdogTime») (y .passes) (y .t))) moved))
-    (w .17 ∙ tally .1 ∙ ap (λ (y : Moved). set (l .bins) at (tallied old (q .«FSP_WatchdogTime») (y .passes) (y .t) .bins)) moved)) w)
+    (w .16 ∙ ap (λ (y : Totals). set (l .totals) at y) (tally .0 ∙ ap (λ (y : Moved). totalsOf (tallied old (q .«FSP_WatchdogTime») (y .«passes_anew») (y .t))) moved))
+    (w .17 ∙ tally .1 ∙ ap (λ (y : Moved). set (l .bins) at (tallied old (q .«FSP_WatchdogTime») (y .«passes_anew») (y .t) .bins)) moved)) w)
     (joined .match2 .came) in (
       acted .eight,
       omega (arith, whole-fits x (f .stands), length-drop (l .at) s, f .start, f .next),
