@@ -13,8 +13,8 @@ use Rattle.answer.specs.Rules.{Rule, answerBy, answerAt, First, Kept}
 use Rattle.answer.proofs.Exact.{given-exactly, taken-exactly}
 use Rattle.block.specs.declared.Params.{Params}
 use Rattle.block.specs.Rules.{judged}
-use Rattle.spdu.specs.declared.Request.{Request}
-use Rattle.spdu.specs.declared.Response.{Response}
+use Rattle.scl.specs.declared.Request.{Request}
+use Rattle.scl.specs.declared.Response.{Response}
 use Rattle.spdu.specs.Signature.{byBits}
 use Rattle.spdu.specs.Fields.{responseBy, requestBy}
 use Rattle.spdu.specs.Built.{buffersHold}

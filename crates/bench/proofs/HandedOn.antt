@@ -10,10 +10,10 @@ use Rattle.answer.specs.declared.Answer.{Answer}
 use Rattle.answer.specs.declared.Answer.the-variants.{Taken}
 use Rattle.answer.specs.Answers.{isTaken}
 use Rattle.answer.specs.Rules.{Kept, answerBy}
-use Rattle.spdu.specs.declared.Request.{Request}
-use Rattle.spdu.specs.declared.Response.{Response}
-use Rattle.spdu.specs.declared.Mark.{Mark}
-use Rattle.spdu.specs.declared.Mark.the-variants.{Fresh}
+use Rattle.scl.specs.declared.Request.{Request}
+use Rattle.scl.specs.declared.Response.{Response}
+use Rattle.scl.specs.declared.Mark.{Mark}
+use Rattle.scl.specs.declared.Mark.the-variants.{Fresh}
 use Rattle.spdu.specs.Places.{processOctets, processOf, allZero}
 use Rattle.spdu.specs.Image as image
 use Rattle.scl.specs.Happenings.{markOf}

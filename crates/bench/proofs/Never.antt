@@ -17,8 +17,8 @@ use Rattle.block.specs.Table22.{paramsOf}
 use Rattle.block.specs.Rules.{judged}
 use Rattle.block.proofs.Answered.{taken-params}
 use Rattle.block.proofs.Bounds.{accepted}
-use Rattle.spdu.specs.declared.Request.{Request}
-use Rattle.spdu.specs.declared.Response.{Response}
+use Rattle.scl.specs.declared.Request.{Request}
+use Rattle.scl.specs.declared.Response.{Response}
 use Rattle.spdu.specs.Signature.{byBits}
 use Rattle.spdu.specs.Places.{controlOf}
 use Rattle.spdu.specs.Fields.{countIn, responseBy, requestBy}

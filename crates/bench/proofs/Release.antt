@@ -10,8 +10,8 @@ use Rattle.scl.specs.Happenings.{readingOf, isFailure}
 use Rattle.scl.specs.declared.Happening.{Happening}
 use Rattle.scl.specs.declared.Happening.the-variants as happening
 use Rattle.scl.proofs.Cases.{cond-case, no, and-right}
-use Rattle.spdu.specs.declared.Response.{Response}
-use Rattle.spdu.specs.declared.Mark.the-variants.{Fresh}
+use Rattle.scl.specs.declared.Response.{Response}
+use Rattle.scl.specs.declared.Mark.the-variants.{Fresh}
 use Rattle.fs_master.specs.declared.Master.{Master}
 use Rattle.fs_master.specs.declared.Outcome.{Outcome}
 use Rattle.fs_master.specs.declared.Row.{Row}

@@ -11,7 +11,7 @@ use Rattle.scl.specs.Happenings.{readingOf}
 use Rattle.scl.specs.declared.Happening.{Happening}
 use Rattle.scl.specs.declared.Happening.the-variants as happening
 use Rattle.scl.proofs.Cases.{cond-case}
-use Rattle.spdu.specs.declared.Response.{Response}
+use Rattle.scl.specs.declared.Response.{Response}
 use Rattle.fs_master.specs.declared.Master.{Master}
 use Rattle.fs_master.specs.declared.Row.{Row}
 use Rattle.fs_master.specs.Table38.{firstMaster, watchdogRow, isTaken, isOld, sampleFrom, t8, t14, acted, signalled}

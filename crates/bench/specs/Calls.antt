@@ -12,8 +12,8 @@ use Rattle.ranges.specs.Fields.{outside}
 use Rattle.block.specs.declared.Params.{Params}
 use Rattle.block.specs.declared.Judged.{Judged}
 use Rattle.block.specs.Rules.{judged}
-use Rattle.spdu.specs.declared.Request.{Request}
-use Rattle.spdu.specs.declared.Response.{Response}
+use Rattle.scl.specs.declared.Request.{Request}
+use Rattle.scl.specs.declared.Response.{Response}
 use Rattle.spdu.specs.Signature.{byBits}
 use Rattle.spdu.specs.Fields.{responseBy, requestBy}
 use Rattle.spdu.specs.Image.{safeValuesHold}

@@ -14,8 +14,8 @@ use Rattle.block.specs.declared.Params.{Params}
 use Rattle.block.specs.Accepted.{Accepted}
 use Rattle.block.specs.Table22.{paramsOf}
 use Rattle.block.specs.Rules.{rulesOn}
-use Rattle.spdu.specs.declared.Request.{Request}
-use Rattle.spdu.specs.declared.Response.{Response}
+use Rattle.scl.specs.declared.Request.{Request}
+use Rattle.scl.specs.declared.Response.{Response}
 use Rattle.spdu.specs.Places.{processOctets}
 use Rattle.spdu.specs.Signature.{byBits}
 use Rattle.spdu.specs.Fields.{responseBy, requestBy}

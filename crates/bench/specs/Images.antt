@@ -7,7 +7,7 @@ use Rattle.answer.specs.declared.Answer.{Answer}
 use Rattle.answer.specs.declared.Answer.the-variants.{Taken}
 use Rattle.answer.specs.Answers.{isTaken}
 use Rattle.answer.specs.Rules.{answerBy}
-use Rattle.spdu.specs.declared.Mark.{Mark}
+use Rattle.scl.specs.declared.Mark.{Mark}
 use Rattle.spdu.specs.Signature.{byBits}
 use Rattle.spdu.specs.Built.{builtAs, buffersHold, responseBuilt}
 use Rattle.spdu.specs.Image as image

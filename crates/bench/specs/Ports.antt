@@ -9,7 +9,7 @@ use Rattle.answer.specs.declared.Answer.the-variants.{Taken}
 use Rattle.ranges.specs.Fields.{outside}
 use Rattle.block.specs.declared.Params.{Params}
 use Rattle.block.specs.Rules.{noParams}
-use Rattle.spdu.specs.declared.Mark.the-variants.{Nothing}
+use Rattle.scl.specs.declared.Mark.the-variants.{Nothing}
 use Rattle.scl.specs.Time.{elapsedOf}
 use Rattle.scl.specs.Happenings.{readingOf}
 use Rattle.scl.specs.declared.Happening.{Happening}

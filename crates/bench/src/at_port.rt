@@ -18,9 +18,9 @@ use fs_master::Master;
 use fs_master::Row;
 use histogram::Histogram;
 use scl::Happening;
-use spdu::Mark;
-use spdu::Request;
-use spdu::Response;
+use scl::Mark;
+use scl::Request;
+use scl::Response;
 
 // A port with no accepted parameters.
 pub(crate) fn new_port() -> Port

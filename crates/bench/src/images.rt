@@ -6,7 +6,7 @@ use crate::Bench;
 use crate::at_port::call_answer;
 use crate::calls::port_at;
 use answer::Answer;
-use spdu::Mark;
+use scl::Mark;
 
 // The FS-Master's outgoing image: process octets (zeros where setSD is 1) in an SPDU, other data behind it.
 pub fn compose(b: Bench, port: u8, process: &[u8], other: &[u8], octets: &mut [u8]) -> Answer

@@ -23,11 +23,11 @@ pub use images::handed_on;
 pub use images::other_part;
 pub use images::spdu_part;
 pub use images::split;
+use scl::Mark;
 pub use shown::bins_of;
 pub use shown::device_of;
 pub use shown::master_of;
 pub use shown::trend_of;
-use spdu::Mark;
 
 // A port with both its ends. `running`: parameters have been accepted.
 #[repr(C)]

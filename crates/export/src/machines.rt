@@ -10,8 +10,8 @@ ghost use Rattle.export.specs.Outcomes.{deviceTold, masterTold};
 use fs_device::Device;
 use fs_master::Master;
 use scl::Happening;
-use spdu::Request;
-use spdu::Response;
+use scl::Request;
+use scl::Response;
 
 #[repr(C)]
 pub struct DeviceOutcome {

@@ -7,8 +7,8 @@ ghost use Rattle.spdu.specs.Fields.{responseBy, requestBy};
 ghost use Rattle.spdu.specs.Built.{buffersHold, builtAs, requestBuilt, responseBuilt};
 ghost use Rattle.spdu.specs.Recording.{signaturesHeld};
 use block::Params;
-use spdu::Request;
-use spdu::Response;
+use scl::Request;
+use scl::Response;
 
 #[no_mangle]
 pub extern "C" fn whakelouna_read_response_by(

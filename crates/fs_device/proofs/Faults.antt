@@ -10,9 +10,9 @@ use Rattle.scl.specs.Happenings.{checkOf, isFailure}
 use Rattle.scl.specs.declared.Happening.{Happening}
 use Rattle.scl.specs.declared.Happening.the-variants as happening
 use Rattle.scl.specs.declared.Check.{Check}
-use Rattle.spdu.specs.declared.Mark.the-variants.{Safe}
+use Rattle.scl.specs.declared.Mark.the-variants.{Safe}
 use Rattle.scl.proofs.Cases.{cond-case, cond-both, no}
-use Rattle.spdu.specs.declared.Request.{Request}
+use Rattle.scl.specs.declared.Request.{Request}
 use Rattle.fs_device.specs.declared.Device.{Device}
 use Rattle.fs_device.specs.declared.Outcome.{Outcome}
 use Rattle.fs_device.specs.declared.Row.{Row}

@@ -10,11 +10,11 @@ use borrow.Author.Tests.{eqb-true, not-true, not-false}
 use Rattle.scl.specs.Happenings.{checkOf, isFailure, markOf}
 use Rattle.scl.specs.declared.Happening.{Happening}
 use Rattle.scl.specs.declared.Happening.the-variants as happening
-use Rattle.spdu.specs.declared.Mark.{Mark}
-use Rattle.spdu.specs.declared.Mark.the-variants.{Fresh, GoesOn, Safe}
+use Rattle.scl.specs.declared.Mark.{Mark}
+use Rattle.scl.specs.declared.Mark.the-variants.{Fresh, GoesOn, Safe}
 use Rattle.scl.specs.declared.Check.{Check}
 use Rattle.scl.proofs.Cases.{cond-case, no, and-left, and-right, or-left, or-right}
-use Rattle.spdu.specs.declared.Request.{Request}
+use Rattle.scl.specs.declared.Request.{Request}
 use Rattle.fs_device.specs.declared.Device.{Device}
 use Rattle.fs_device.specs.declared.Outcome.{Outcome}
 use Rattle.fs_device.specs.declared.Row.{Row}

@@ -8,7 +8,7 @@ use Rattle.scl.specs.Counts.{inverted}
 use Rattle.scl.specs.Moved.{moved}
 use Rattle.scl.specs.declared.Happening.{Happening}
 use Rattle.scl.specs.declared.Happening.the-variants as happening
-use Rattle.spdu.specs.declared.Request.{Request}
+use Rattle.scl.specs.declared.Request.{Request}
 use Rattle.fs_device.specs.declared.Device.{Device}
 use Rattle.fs_device.specs.declared.Outcome.{Outcome}
 use Rattle.fs_device.specs.declared.Row.the-variants.{T22}

@@ -11,7 +11,7 @@ use Rattle.scl.specs.Time.{expiredOf}
 use Rattle.scl.specs.Counts.{countAfter, inverted}
 use Rattle.scl.specs.Happenings.{checkOf}
 use Rattle.scl.specs.declared.Check.{Check}
-use Rattle.spdu.specs.declared.Request.{Request}
+use Rattle.scl.specs.declared.Request.{Request}
 use Rattle.fs_device.specs.declared.Device.{Device}
 use Rattle.fs_device.specs.declared.Row.{Row}
 use Rattle.fs_device.specs.declared.Row.the-variants.{Stay, T22, T25, T28, T29, T30, T31}

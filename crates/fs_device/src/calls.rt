@@ -14,7 +14,7 @@ use crate::table40::timed_out;
 use crate::table40::watchdog_row;
 use scl::Check;
 use scl::Happening;
-use spdu::Request;
+use scl::Request;
 
 fn quiet(d: Device, watchdog: Row, old: bool) -> Outcome
     ensures { λ r. ⌜ r ≡ calls.quiet d watchdog old ⌝ }

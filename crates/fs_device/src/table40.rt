@@ -6,7 +6,7 @@ ghost use Rattle.fs_device.specs.Table40 as table40;
 use crate::Device;
 use crate::Row;
 use scl::Check;
-use spdu::Request;
+use scl::Request;
 
 // After an accepted block with its reading.
 pub fn first(at: u32) -> Device

@@ -10,11 +10,11 @@ use borrow.Author.Tests.{not-true}
 use Rattle.scl.specs.Happenings.{checkOf, isFailure, markOf}
 use Rattle.scl.specs.declared.Happening.{Happening}
 use Rattle.scl.specs.declared.Happening.the-variants as happening
-use Rattle.spdu.specs.declared.Mark.{Mark}
-use Rattle.spdu.specs.declared.Mark.the-variants.{Fresh, GoesOn, Safe}
+use Rattle.scl.specs.declared.Mark.{Mark}
+use Rattle.scl.specs.declared.Mark.the-variants.{Fresh, GoesOn, Safe}
 use Rattle.scl.specs.declared.Check.{Check}
 use Rattle.scl.proofs.Cases.{cond-case, no, and-left, and-right, or-left, or-right}
-use Rattle.spdu.specs.declared.Response.{Response}
+use Rattle.scl.specs.declared.Response.{Response}
 use Rattle.fs_master.specs.declared.Master.{Master}
 use Rattle.fs_master.specs.declared.Outcome.{Outcome}
 use Rattle.fs_master.specs.declared.Row.{Row}

@@ -7,7 +7,7 @@ use borrow.Author.Tests.{le-ltb, ne-eqb, eqb-true}
 use native.Mathlib.Omega.{arith}
 use Rattle.scl.specs.Time.{elapsedOf, expiredOf}
 use Rattle.scl.proofs.Cases.{cond-case}
-use Rattle.spdu.specs.declared.Response.{Response}
+use Rattle.scl.specs.declared.Response.{Response}
 use Rattle.fs_master.specs.declared.Master.{Master}
 use Rattle.fs_master.specs.declared.Outcome.{Outcome}
 use Rattle.fs_master.specs.declared.Row.{Row}

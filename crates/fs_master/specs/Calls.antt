@@ -6,7 +6,7 @@ use Rattle.scl.specs.declared.Happening.{Happening}
 use Rattle.scl.specs.declared.Happening.the-variants as happening
 use Rattle.scl.specs.declared.Check.{Check}
 use Rattle.scl.specs.declared.Check.the-variants as check
-use Rattle.spdu.specs.declared.Response.{Response}
+use Rattle.scl.specs.declared.Response.{Response}
 use Rattle.fs_master.specs.declared.Master.{Master}
 use Rattle.fs_master.specs.declared.Outcome.{Outcome}
 use Rattle.fs_master.specs.declared.Row.{Row}

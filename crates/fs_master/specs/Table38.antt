@@ -11,7 +11,7 @@ use Rattle.scl.specs.Time.{expiredOf}
 use Rattle.scl.specs.Counts.{countAfter, inverted}
 use Rattle.scl.specs.Happenings.{checkOf}
 use Rattle.scl.specs.declared.Check.{Check}
-use Rattle.spdu.specs.declared.Response.{Response}
+use Rattle.scl.specs.declared.Response.{Response}
 use Rattle.fs_master.specs.declared.Master.{Master}
 use Rattle.fs_master.specs.declared.Row.{Row}
 use Rattle.fs_master.specs.declared.Row.the-variants.{Stay, T4, T7, T8, T11, T12, T13, T14}

@@ -16,7 +16,7 @@ use crate::table38::timed_out;
 use crate::table38::watchdog_row;
 use scl::Check;
 use scl::Happening;
-use spdu::Response;
+use scl::Response;
 
 fn quiet(m: Master, watchdog: Row, old: bool) -> Outcome
     ensures { λ r. ⌜ r ≡ calls.quiet m watchdog old ⌝ }

@@ -50,5 +50,5 @@ pub struct Outcome {
     pub check: scl::Check,
     pub old: bool,
     pub passed: bool,
-    pub mark: spdu::Mark,
+    pub mark: scl::Mark,
 }

@@ -5,7 +5,7 @@ ghost use Rattle.fs_master.specs.Table38 as table38;
 use crate::Master;
 use crate::Row;
 use scl::Check;
-use spdu::Response;
+use scl::Response;
 
 // After an accepted block with its reading.
 pub fn first(at: u32) -> Master

@@ -3,8 +3,8 @@ use Prim.Native.Nat.{ℕ}
 use mathlib.Core.Bool.{Bool, true, false, cond, not}
 use Rattle.scl.specs.declared.Happening.{Happening}
 use Rattle.scl.specs.declared.Happening.the-variants as happening
-use Rattle.spdu.specs.declared.Mark.{Mark}
-use Rattle.spdu.specs.declared.Mark.the-variants.{Fresh, Safe, GoesOn, Nothing}
+use Rattle.scl.specs.declared.Mark.{Mark}
+use Rattle.scl.specs.declared.Mark.the-variants.{Fresh, Safe, GoesOn, Nothing}
 use Rattle.scl.specs.declared.Check.{Check}
 use Rattle.scl.specs.declared.Check.the-variants as check
 

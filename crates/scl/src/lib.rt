@@ -1,11 +1,41 @@
-// What both SCL machines share: elapsed time, what can happen at a port, and what a call says of it.
+// What both SCL machines share: elapsed time, the fields of an SPDU that they see, what can happen at a port, and what a call says of it.
 ghost use mathlib.Core.Path.{_≡_};
 ghost use Rattle.scl.specs.Time.{elapsedOf, expiredOf};
 ghost use Rattle.scl.specs.Counts.{countAfter, inverted};
 ghost use Rattle.scl.specs.Happenings.{readingOf, markNumberOf, checkNumberOf, checkOf, isFailure, markOf};
-use spdu::Mark;
-use spdu::Request;
-use spdu::Response;
+
+// What an FS-Master reads of a received SPDU (000 Table 32).
+#[repr(C)]
+pub struct Response {
+    pub length: usize,
+    pub DCount_i: u8,
+    pub SDset: bool,
+    pub DCommErr: bool,
+    pub DTimeout: bool,
+    pub port_holds: bool,
+    pub signature_holds: bool,
+    pub all_zero: bool,
+}
+
+// What an FS-Device reads of a received SPDU (000 Table 31).
+#[repr(C)]
+pub struct Request {
+    pub length: usize,
+    pub MCount: u8,
+    pub setSD: bool,
+    pub ChFAckReq: bool,
+    pub port_holds: bool,
+    pub signature_holds: bool,
+    pub all_zero: bool,
+}
+
+// What a call hands on at an end: process octets of this SPDU, safe values, or nothing because release goes on or because the call was refused.
+pub enum Mark {
+    Fresh,
+    Safe,
+    GoesOn,
+    Nothing,
+}
 
 // What happens at a port from outside (01), each with its clock reading: an SPDU received as FS-Master, one received as FS-Device, a clock
 // reading alone, the operator signals setSD_C and ChFAck_C.

@@ -17,7 +17,7 @@ use Rattle.block.specs.declared.Judged.{Judged}
 use Rattle.block.specs.Rules.{rulesOn, judgedAs, judged}
 use Rattle.block.specs.Table22.{paramsOf}
 use Rattle.spdu.specs.Signature.{byBits}
-use Rattle.spdu.specs.declared.Response.{Response}
+use Rattle.scl.specs.declared.Response.{Response}
 use Rattle.spdu.specs.Fields.{responseBy}
 use Rattle.scl.specs.declared.Happening.{Happening}
 use Rattle.scl.specs.declared.Happening.the-variants as happening

@@ -6,8 +6,8 @@ use mathlib.Core.List.{List}
 use lib.Dec.{eqb}
 use lib.ListN.{length}
 use Rattle.block.specs.declared.Params.{Params}
-use Rattle.spdu.specs.declared.Request.{Request}
-use Rattle.spdu.specs.declared.Response.{Response}
+use Rattle.scl.specs.declared.Request.{Request}
+use Rattle.scl.specs.declared.Response.{Response}
 use Rattle.spdu.specs.Places.{portOf, controlOf, signatureHolds, allZero}
 
 -- bits 5 to 7: MCount, or DCount_i

@@ -6,8 +6,8 @@ use lib.Dec.{eqb}
 use lib.ListN.{length, take, drop}
 use Rattle.ranges.specs.Fields.{safetyOctets}
 use Rattle.block.specs.declared.Params.{Params}
-use Rattle.spdu.specs.declared.Mark.{Mark}
-use Rattle.spdu.specs.declared.Mark.the-variants.{Fresh, GoesOn, Safe, Nothing}
+use Rattle.scl.specs.declared.Mark.{Mark}
+use Rattle.scl.specs.declared.Mark.the-variants.{Fresh, GoesOn, Safe, Nothing}
 use Rattle.spdu.specs.Places.{processOf, processOctets, allZero}
 use Rattle.spdu.specs.Built.{controlOctet, spduWith, processSent}
 

@@ -3,8 +3,8 @@ use Prim.Native.Nat.{ℕ, _%_}
 use mathlib.Core.Bool.{Bool, true, false}
 use lib.Dec.{eqb}
 use Rattle.block.specs.declared.Params.{Params}
-use Rattle.spdu.specs.declared.Request.{Request}
-use Rattle.spdu.specs.declared.Response.{Response}
+use Rattle.scl.specs.declared.Request.{Request}
+use Rattle.scl.specs.declared.Response.{Response}
 
 abbrev pub requestBack : Params → ℕ → Bool → Bool → Request
 requestBack p mCount setSD chFAckReq = record {

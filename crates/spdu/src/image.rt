@@ -5,13 +5,13 @@ ghost use lib.ListN.{length};
 ghost use Rattle.spdu.specs.Signature.{byTables};
 ghost use Rattle.spdu.specs.Built.{builtAs};
 ghost use Rattle.spdu.specs.Image as image;
-use crate::Mark;
 use crate::build::buffers_hold;
 use crate::build::build_request_by;
 use crate::read::all_zero;
 use crate::read::process_octets;
 use answer::Answer;
 use block::Params;
+use scl::Mark;
 
 fn composer_fits(mode: u8, o: u8, rest: u8, process: usize, other: usize, octets: usize) -> bool
     ensures { λ r. ⌜ r ≡ image.composerFits mode o rest process other octets ⌝ }

@@ -24,36 +24,3 @@ pub use plain::signatures_held;
 pub use read::read_request_by;
 pub use read::read_response_by;
 pub use recording::signatures_held_by;
-
-// What an FS-Master reads of a received SPDU (000 Table 32).
-#[repr(C)]
-pub struct Response {
-    pub length: usize,
-    pub DCount_i: u8,
-    pub SDset: bool,
-    pub DCommErr: bool,
-    pub DTimeout: bool,
-    pub port_holds: bool,
-    pub signature_holds: bool,
-    pub all_zero: bool,
-}
-
-// What an FS-Device reads of a received SPDU (000 Table 31).
-#[repr(C)]
-pub struct Request {
-    pub length: usize,
-    pub MCount: u8,
-    pub setSD: bool,
-    pub ChFAckReq: bool,
-    pub port_holds: bool,
-    pub signature_holds: bool,
-    pub all_zero: bool,
-}
-
-// What a call hands on at an end: process octets of this SPDU, safe values, or nothing because release goes on or because the call was refused.
-pub enum Mark {
-    Fresh,
-    Safe,
-    GoesOn,
-    Nothing,
-}

@@ -6,10 +6,10 @@ ghost use Rattle.spdu.specs.Fields.{responseBy, requestBy};
 ghost use Rattle.spdu.specs.Built.{builtAs, buffersHold, responseBuilt};
 ghost use Rattle.spdu.specs.Image.{composerHolds, composed};
 ghost use Rattle.spdu.specs.Recording.{signaturesHeld};
-use crate::Request;
-use crate::Response;
 use answer::Answer;
 use block::Params;
+use scl::Request;
+use scl::Response;
 
 pub fn read_response(p: Params, s: &[u8]) -> Response
     ensures { λ r. ⌜ r ≡ responseBy byBits p (now (s .entry)) ⌝ }

@@ -6,9 +6,9 @@ ghost use Rattle.spdu.specs.Signature.{byTables, replaced};
 ghost use Rattle.block.specs.Octets as octets;
 ghost use Rattle.spdu.specs.Places as places;
 ghost use Rattle.spdu.specs.Fields as fields;
-use crate::Request;
-use crate::Response;
 use block::Params;
+use scl::Request;
+use scl::Response;
 
 // How many process octets an SPDU of n octets has.
 pub(crate) fn process_octets(mode: u8, n: usize) -> usize

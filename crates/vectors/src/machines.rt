@@ -5,8 +5,8 @@ use crate::print::text;
 use fs_device::Device;
 use fs_master::Master;
 use scl::Happening;
-use spdu::Request;
-use spdu::Response;
+use scl::Request;
+use scl::Response;
 
 // Document 01: W 100.
 const W: u16 = 100;
