@@ -43,23 +43,29 @@ fn times() {
     );
 }
 
-fn shown(name: &[u8], at: u32, ends: Ends) {
-    let m = ends.master;
-    let d = ends.device;
-    text(name);
-    value(b", ", at as u64);
+fn show_device(d: Device) {
     value(b" ms: FS-Device ", d.state as u64);
     value(b" DCount_i ", d.DCount_i as u64);
     value(b" SDset ", number(d.SDset));
     value(b" DCommErr ", number(d.DCommErr));
     value(b" DTimeout ", number(d.DTimeout));
     value(b" PDout ", number(d.released));
+}
+
+fn show_master(m: Master) {
     value(b"; FS-Master ", m.state as u64);
     value(b" MCount ", m.MCount as u64);
     value(b" setSD ", number(m.setSD));
     value(b" SDset_S ", number(m.SDset_S));
     value(b" ChFAckReq_S ", number(m.ChFAckReq_S));
     value(b" PDin ", number(m.released));
+}
+
+fn shown(name: &[u8], at: u32, ends: Ends) {
+    text(name);
+    value(b", ", at as u64);
+    show_device(ends.device);
+    show_master(ends.master);
     text(b"\n");
 }
 
@@ -118,6 +124,17 @@ fn cycle(name: &[u8], ends: Ends, at: u32) -> Ends {
     answer(name, there, at, false)
 }
 
+// Two cycles, 10 ms apart.
+fn two_cycles(name: &[u8], ends: Ends, at: u32) -> Ends {
+    let ends = cycle(name, ends, at);
+    cycle(name, ends, std::num::wrapping_add_u32(at, 10))
+}
+
+fn four_cycles(name: &[u8], ends: Ends, at: u32) -> Ends {
+    let ends = two_cycles(name, ends, at);
+    two_cycles(name, ends, std::num::wrapping_add_u32(at, 20))
+}
+
 fn damaged_there(name: &[u8], ends: Ends, at: u32) -> Ends {
     let m = ends.master;
     let there = at_device(ends, Happening::Request(at, request(m, true)));
@@ -151,10 +168,7 @@ fn start() -> Ends {
     let device = fs_device::first(0);
     let ends = Ends { master, device };
     let ends = answer(b"zeros", ends, 5, false);
-    let ends = cycle(b"start-up", ends, 10);
-    let ends = cycle(b"start-up", ends, 20);
-    let ends = cycle(b"start-up", ends, 30);
-    let ends = cycle(b"start-up", ends, 40);
+    let ends = four_cycles(b"start-up", ends, 10);
     cycle(b"regular", ends, 50)
 }
 
@@ -165,35 +179,25 @@ fn power(ends: Ends) {
     let master = ends.master;
     let device = fs_device::first(152);
     let ends = Ends { master, device };
-    let ends = cycle(b"on again", ends, 160);
-    let ends = cycle(b"on again", ends, 170);
-    let ends = cycle(b"on again", ends, 180);
-    let ends = cycle(b"on again", ends, 190);
+    let ends = four_cycles(b"on again", ends, 160);
     let ends = acknowledge(ends, 195);
-    let ends = cycle(b"on again", ends, 200);
-    cycle(b"on again", ends, 210);
+    two_cycles(b"on again", ends, 200);
 }
 
 // 11.5.4.6: the FS-Master detects a CRC error.
 fn master_error(ends: Ends) {
     let ends = damaged_back(b"CRC error at the FS-Master", ends, 60);
-    let ends = cycle(b"after it", ends, 70);
-    let ends = cycle(b"after it", ends, 80);
+    let ends = two_cycles(b"after it", ends, 70);
     let ends = acknowledge(ends, 85);
-    let ends = cycle(b"after it", ends, 90);
-    cycle(b"after it", ends, 100);
+    two_cycles(b"after it", ends, 90);
 }
 
 // 11.5.4.7: the FS-Device detects a CRC error, and runs through three SDcycles.
 fn device_error(ends: Ends) {
     let ends = damaged_there(b"CRC error at the FS-Device", ends, 60);
-    let ends = cycle(b"after it", ends, 70);
-    let ends = cycle(b"after it", ends, 80);
-    let ends = cycle(b"after it", ends, 90);
-    let ends = cycle(b"after it", ends, 100);
+    let ends = four_cycles(b"after it", ends, 70);
     let ends = acknowledge(ends, 105);
-    let ends = cycle(b"after it", ends, 110);
-    cycle(b"after it", ends, 120);
+    two_cycles(b"after it", ends, 110);
 }
 
 pub(crate) fn run() {

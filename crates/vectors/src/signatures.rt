@@ -53,11 +53,14 @@ fn table(name: &[u8], printed: &[u32; 256], width: u32, digits: usize) {
     entries(name, differ);
 }
 
-fn tables() {
-    let table_d4 = TABLE_D4;
-    let table_d7 = TABLE_D7;
-    table(b"000 Table D.4", &table_d4, 16, 4);
-    table(b"000 Table D.7", &table_d7, 32, 8);
+fn short_table() {
+    let printed = TABLE_D4;
+    table(b"000 Table D.4", &printed, 16, 4);
+}
+
+fn long_table() {
+    let printed = TABLE_D7;
+    table(b"000 Table D.7", &printed, 32, 8);
 }
 
 // 000 Figure A.1: the octets of an instance of Table A.4, and its FSP_IO_StructCRC.
@@ -110,7 +113,8 @@ fn nothing() {
 }
 
 pub(crate) fn run() {
-    tables();
+    short_table();
+    long_table();
     figure_a1();
     digits();
     nothing();
