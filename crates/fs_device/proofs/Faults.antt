@@ -2,11 +2,12 @@
 use Prim.Native.Nat.{ℕ, _≤_}
 use mathlib.Core.Path.{_≡_, refl}
 use mathlib.Core.Bool.{Bool, true, false, cond, not, _&&_, _||_}
+use mathlib.Core.List.{List, [], _∷_}
 use lib.Dec.{eqb}
 use borrow.Author.Tests.{le-ltb, not-true}
 use Rattle.scl.specs.Time.{elapsedOf, expiredOf}
 use Rattle.scl.specs.Counts.{inverted}
-use Rattle.scl.specs.Happenings.{checkOf, isFailure}
+use Rattle.scl.specs.Happenings.{readingOf, checkOf, isFailure}
 use Rattle.scl.specs.declared.Happening.{Happening}
 use Rattle.scl.specs.declared.Happening.the-variants as happening
 use Rattle.scl.specs.declared.Check.{Check}
@@ -19,7 +20,7 @@ use Rattle.fs_device.specs.declared.Row.{Row}
 use Rattle.fs_device.specs.declared.Row.the-variants.{Stay, T22, T25, T28, T29, T30, T31}
 use Rattle.fs_device.specs.Table40.{timeoutRow, watchdogRow, isOld, isTaken, countHolds, checked, arrivalRow, taken, t22, t25, t28, t29, t30t31, acted}
 use Rattle.fs_device.specs.Calls.{judged, quiet, arrived, received, watched, stepOf, stands}
-use Rattle.fs_device.specs.History.{Mirrors, lastTaken, waits, sound}
+use Rattle.fs_device.specs.History.{deviceAfter, Mirrors, takenBy, lastTaken, waits, sound}
 
 -- Time
 
@@ -79,31 +80,42 @@ received-mirrors d r at q h =
     (λ _. row-case d at q Mirrors (isFailure (checked d q)) (λ _. refl) (λ _. refl) (λ _. refl) (λ _. refl))
     (λ _. h)
 
--- DCount_i mirrors the last MCount taken, once there is a response,
-pub mirrored : (d : Device) (w : ℕ) (h : Happening) → Mirrors d → Mirrors (stepOf d w h .device)
+step-mirrors : (d : Device) (w : ℕ) (h : Happening) → Mirrors d → Mirrors (stepOf d w h .device)
 unfolding stepOf watched quiet
-mirrored d w (happening.Request at q) m = received-mirrors (judged d w at) (watchdogRow d w at) at q (judged-mirrors d w at m)
-mirrored d w (happening.Response at f) m = judged-mirrors d w at m
-mirrored d w (happening.Clock at) m = judged-mirrors d w at m
-mirrored d w (happening.Operator at «setSD_C» «ChFAck_C») m = judged-mirrors d w at m
+step-mirrors d w (happening.Request at q) m = received-mirrors (judged d w at) (watchdogRow d w at) at q (judged-mirrors d w at m)
+step-mirrors d w (happening.Response at f) m = judged-mirrors d w at m
+step-mirrors d w (happening.Clock at) m = judged-mirrors d w at m
+step-mirrors d w (happening.Operator at «setSD_C» «ChFAck_C») m = judged-mirrors d w at m
 
-judged-count : (d : Device) (w at : ℕ) → judged d w at .MCount ≡ d .MCount
+-- DCount_i mirrors the last MCount taken, once there is a response,
+pub mirrored : (at w : ℕ) (past : List Happening) → Mirrors (deviceAfter at w past)
+unfolding deviceAfter
+mirrored at w [] = λ e. no (cc)
+mirrored at w (h ∷ past) = step-mirrors (deviceAfter at w past) w h (mirrored at w past)
+
+judged-count : (d : Device) (w at n : ℕ) → d .MCount ≡ n → judged d w at .MCount ≡ n
 unfolding t30t31
-judged-count d w at = judged-case d w at (λ (e : Device). e .MCount ≡ d .MCount) refl refl
+judged-count d w at n e = judged-case d w at (λ (j : Device). j .MCount ≡ n) e e
 
-received-count : (d : Device) (r : Row) (at : ℕ) (q : Request) → received d r at q .device .MCount ≡ cond (isTaken d q) (q .MCount) (d .MCount)
+received-count : (d : Device) (r : Row) (at n : ℕ) (q : Request) → d .MCount ≡ n → received d r at q .device .MCount ≡ cond (isTaken d q) (q .MCount) n
 unfolding received arrived quiet t22 t25 t28 t29 taken
-received-count d r at q = cond-both (λ (o : Outcome) (n : ℕ). o .device .MCount ≡ n) (isTaken d q)
-    (row-case d at q (λ (e : Device). e .MCount ≡ q .MCount) (isFailure (checked d q)) refl refl refl refl)
-    refl
+received-count d r at n q e =
+    cond-both (λ (o : Outcome) (m : ℕ). o .device .MCount ≡ m) (isTaken d q)
+    (row-case d at q (λ (j : Device). j .MCount ≡ q .MCount) (isFailure (checked d q)) refl refl refl refl)
+    e
+
+step-count : (d : Device) (w n : ℕ) (h : Happening) → d .MCount ≡ n → stepOf d w h .device .MCount ≡ takenBy (judged d w (readingOf h)) h n
+unfolding stepOf watched quiet takenBy
+step-count d w n (happening.Request at q) e = received-count (judged d w at) (watchdogRow d w at) at n q (judged-count d w at n e)
+step-count d w n (happening.Response at f) e = judged-count d w at n e
+step-count d w n (happening.Clock at) e = judged-count d w at n e
+step-count d w n (happening.Operator at «setSD_C» «ChFAck_C») e = judged-count d w at n e
 
 -- which is that of the last SPDU taken.
-pub last-taken : (d : Device) (w : ℕ) (h : Happening) → stepOf d w h .device .MCount ≡ lastTaken d w h
-unfolding stepOf watched quiet lastTaken judged acted
-last-taken d w (happening.Request at q) = rw (judged-count d w at) at (received-count (judged d w at) (watchdogRow d w at) at q)
-last-taken d w (happening.Response at f) = judged-count d w at
-last-taken d w (happening.Clock at) = judged-count d w at
-last-taken d w (happening.Operator at «setSD_C» «ChFAck_C») = judged-count d w at
+pub last-taken : (at w : ℕ) (past : List Happening) → deviceAfter at w past .MCount ≡ lastTaken at w past
+unfolding deviceAfter lastTaken
+last-taken at w [] = refl
+last-taken at w (h ∷ past) = step-count (deviceAfter at w past) w (lastTaken at w past) h (last-taken at w past)
 
 -- Damage
 
@@ -118,13 +130,18 @@ received-waits d r at q h =
     (λ _. row-case d at q (λ (e : Device). waits e ≡ true) (isFailure (checked d q)) refl refl refl refl)
     (λ _. h)
 
--- The FS-Device rests in 21, 24 or 26.
+-- The FS-Device rests in 21, 24 or 26, from a block on.
 pub waiting : (d : Device) (w : ℕ) (h : Happening) → waits d ≡ true → waits (stepOf d w h .device) ≡ true
 unfolding stepOf watched quiet
 waiting d w (happening.Request at q) e = received-waits (judged d w at) (watchdogRow d w at) at q (judged-waits d w at e)
 waiting d w (happening.Response at f) e = judged-waits d w at e
 waiting d w (happening.Clock at) e = judged-waits d w at e
 waiting d w (happening.Operator at «setSD_C» «ChFAck_C») e = judged-waits d w at e
+
+pub waits-always : (at w : ℕ) (past : List Happening) → waits (deviceAfter at w past) ≡ true
+unfolding deviceAfter
+waits-always at w [] = refl
+waits-always at w (h ∷ past) = waiting (deviceAfter at w past) w h (waits-always at w past)
 
 taken-there : (zero old wait : Bool) → wait ≡ true → zero ≡ false → old ≡ false → (not zero && wait && not old) ≡ true
 taken-there zero old wait a b c = simp (a, b, c)

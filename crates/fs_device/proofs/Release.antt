@@ -1,12 +1,12 @@
 -- When the FS-Device releases. Assumes nothing.
-use Prim.Native.Nat.{ℕ, _+_, _-_, _≤_, _<_}
+use Prim.Native.Nat.{ℕ, _+_, _≤_, _<_}
 use native.Mathlib.Omega.{arith}
 use mathlib.Core.Path.{_≡_, refl}
 use mathlib.Core.Bool.{Bool, true, false, cond, not, _&&_, _||_}
 use mathlib.Core.List.{List, [], _∷_}
-use mathlib.Core.Logic.{_⊎_, inl, inr, ⊎-elim}
 use lib.Dec.{eqb}
 use borrow.Author.Tests.{eqb-true, not-true, not-false}
+use Rattle.scl.specs.Time.{expiredOf}
 use Rattle.scl.specs.Happenings.{checkOf, isFailure, markOf}
 use Rattle.scl.specs.declared.Happening.{Happening}
 use Rattle.scl.specs.declared.Happening.the-variants as happening
@@ -21,7 +21,7 @@ use Rattle.fs_device.specs.declared.Row.{Row}
 use Rattle.fs_device.specs.declared.Row.the-variants.{Stay, T22, T25, T28, T29, T30, T31}
 use Rattle.fs_device.specs.Table40.{timeoutRow, watchdogRow, isOld, isTaken, countHolds, checked, arrivalRow, taken, t22, t25, t28, t29, t30t31, acted, firstDevice}
 use Rattle.fs_device.specs.Calls.{judged, quiet, arrived, received, watched, stepOf}
-use Rattle.fs_device.specs.History.{Releases, FreshBy, run, passes}
+use Rattle.fs_device.specs.History.{Releases, FreshBy, deviceAfter, isErrorOrTimeout, passedSince}
 
 goes-on : {A : Type 0} → GoesOn ≡ Fresh → A
 goes-on e = let z : _≡_ {A = ℕ} 0 1 = cc in absurd (omega arith)
@@ -96,90 +96,65 @@ pub fresh-if : (d : Device) (w at : ℕ) (q : Request) → Releases (judged d w 
 unfolding stepOf received
 fresh-if d w at q c = rw (c .taken) (arrived-fresh (judged d w at) (watchdogRow d w at) at q c)
 
--- from d to e, with p SPDUs that passed (0 or 1): SDcycles falls by at most p, and release begins only where it was 0
-record Falls (d e : Device) (p : ℕ) : Type 0 where
-  pub cycles : d .SDcycles ≤ e .SDcycles + p
-  pub bound : e .SDcycles ≤ 3
-  pub release : e .released ≡ true → (d .released ≡ true) ⊎ ((1 ≤ p) × (d .SDcycles ≡ 0))
+-- n SPDUs have passed since SDcycles was 3: it has fallen by at most n, and release needs one more
+record Counts (d : Device) (n : ℕ) : Type 0 where
+  pub cycles : 3 ≤ d .SDcycles + n
+  pub release : d .released ≡ true → 3 < n
 
-row-falls : (d : Device) (q : Request) (at : ℕ) (CommErr : Bool) → d .SDcycles ≤ 3 → Falls d (acted (taken d q) (arrivalRow d CommErr) at (q .setSD) CommErr) (cond (not CommErr) 1 0)
+-- the number after the watchdog's row, and after the arrival's
+abbrev judgedTo : Row → ℕ → ℕ
+judgedTo r n = cond (isErrorOrTimeout r false) 0 n
+
+abbrev arrivedTo : Row → Bool → Bool → ℕ → ℕ
+arrivedTo r CommErr passed n = cond (isErrorOrTimeout r CommErr) 0 (cond passed (n + 1) n)
+
+abbrev CountsAfter : Outcome → ℕ → Type 0
+CountsAfter o n = Counts (o .device) (arrivedTo (o .arrival) (isFailure (o .check)) (o .passed) (judgedTo (o .watchdog) n))
+
+row-counts : (d : Device) (q : Request) (at n : ℕ) (CommErr : Bool) → Counts d n → Counts (acted (taken d q) (arrivalRow d CommErr) at (q .setSD) CommErr) (arrivedTo (arrivalRow d CommErr) CommErr (not CommErr) n)
 unfolding arrivalRow acted taken t22 t25 t28 t29
-row-falls d q at true b =
-    cond-case (λ (r : Row). Falls d (acted (taken d q) r at (q .setSD) true) 0) (eqb (d .state) 26)
-    (λ _. record { cycles = b; bound = omega arith; release = λ e. no (cc) })
-    (λ _. record { cycles = b; bound = omega arith; release = λ e. no (cc) })
-row-falls d q at false b =
-    cond-case (λ (r : Row). Falls d (acted (taken d q) r at (q .setSD) false) 1) (eqb (d .state) 26)
-    (λ _. cond-case (λ (r : Row). Falls d (acted (taken d q) r at (q .setSD) false) 1) (not (eqb (d .SDcycles) 0))
-    (λ _. record { cycles = omega arith; bound = omega arith; release = λ e. no (cc) })
-    (λ _. record { cycles = omega arith; bound = b; release = λ e. no (cc) }))
-    (λ _. record { cycles = omega arith; bound = omega arith; release = λ e. inr (omega arith, t22-asks (d .SDcycles) (q .setSD) e .0) })
+row-counts d q at n true c =
+    cond-case (λ (r : Row). Counts (acted (taken d q) r at (q .setSD) true) (arrivedTo r true false n)) (eqb (d .state) 26)
+    (λ _. record { cycles = omega arith; release = λ e. no (cc) })
+    (λ _. record { cycles = omega arith; release = λ e. no (cc) })
+row-counts d q at n false c =
+    cond-case (λ (r : Row). Counts (acted (taken d q) r at (q .setSD) false) (arrivedTo r false true n)) (eqb (d .state) 26)
+    (λ _. cond-case (λ (r : Row). Counts (acted (taken d q) r at (q .setSD) false) (arrivedTo r false true n)) (not (eqb (d .SDcycles) 0))
+    (λ _. record { cycles = omega (arith, c .cycles); release = λ e. no (cc) })
+    (λ _. record { cycles = omega (arith, c .cycles); release = λ e. no (cc) }))
+    (λ _. record { cycles = omega (arith, c .cycles); release = λ e. omega (arith, c .cycles, t22-asks (d .SDcycles) (q .setSD) e .0) })
 
-quiet-falls : (d : Device) (r : Row) (old : Bool) → d .SDcycles ≤ 3 → Falls d (quiet d r old .device) (cond (quiet d r old .passed) 1 0)
-unfolding quiet
-quiet-falls d r old b = record { cycles = omega arith; bound = b; release = λ e. inl e }
+received-counts : (d : Device) (r : Row) (at n : ℕ) (q : Request) → Counts d (judgedTo r n) → CountsAfter (received d r at q) n
+unfolding received arrived quiet
+received-counts d r at n q c =
+    cond-case (λ (o : Outcome). CountsAfter o n) (isTaken d q) (λ _. row-counts d q at (judgedTo r n) (isFailure (checked d q)) c) (λ _. c)
 
-received-falls : (d : Device) (r : Row) (at : ℕ) (q : Request) → d .SDcycles ≤ 3 → Falls d (received d r at q .device) (cond (received d r at q .passed) 1 0)
-unfolding received arrived
-received-falls d r at q b =
-    cond-case (λ (o : Outcome). Falls d (o .device) (cond (o .passed) 1 0)) (isTaken d q) (λ _. row-falls d q at (isFailure (checked d q)) b) (λ _. quiet-falls d r (isOld d q) b)
-
-judged-falls : (d : Device) (w at : ℕ) → d .SDcycles ≤ 3 → Falls d (judged d w at) 0
+judged-counts : (d : Device) (w at n : ℕ) → Counts d n → Counts (judged d w at) (judgedTo (watchdogRow d w at) n)
 unfolding judged watchdogRow acted t30t31
-judged-falls d w at b =
-    cond-case (λ (r : Row). Falls d (acted d r at false false) 0) (d .runs && _)
-    (λ _. cond-case (λ (r : Row). Falls d (acted d r at false false) 0) (eqb (d .state) 24)
-    (λ _. record { cycles = b; bound = omega arith; release = λ e. no (cc) })
-    (λ _. cond-case (λ (r : Row). Falls d (acted d r at false false) 0) (eqb (d .state) 26)
-    (λ _. record { cycles = b; bound = omega arith; release = λ e. no (cc) })
-    (λ _. record { cycles = omega arith; bound = b; release = λ e. inl e })))
-    (λ _. record { cycles = omega arith; bound = b; release = λ e. inl e })
+judged-counts d w at n c =
+    cond-case P (d .runs && expiredOf at (d .DTimer) w)
+    (λ _. cond-case P (eqb (d .state) 24) (λ _. late) (λ _. cond-case P (eqb (d .state) 26) (λ _. late) (λ _. c)))
+    (λ _. c)
+  where
+    P : Row → Type 0
+    P r = Counts (acted d r at false false) (judgedTo r n)
 
-then-falls : {d e f : Device} {p : ℕ} → Falls d e 0 → Falls e f p → Falls d f p
-then-falls a b = record {
-  cycles = omega (arith, a .cycles, b .cycles);
-  bound = b .bound;
-  release = λ r. ⊎-elim (λ er. ⊎-elim (λ dr. inl dr) (λ z. absurd (omega (arith, z .0))) (a .release er)) (λ z. inr (z .0, omega (arith, z .1, a .cycles))) (b .release r);
-}
+    late : Counts (t30t31 d at) 0
+    late = record { cycles = omega arith; release = λ e. no (cc) }
 
-step-falls : (d : Device) (w : ℕ) (h : Happening) → d .SDcycles ≤ 3 → Falls d (stepOf d w h .device) (cond (stepOf d w h .passed) 1 0)
-unfolding stepOf watched
-step-falls d w (happening.Request at q) b =
-    let j = judged-falls d w at b in
-    then-falls j (received-falls (judged d w at) (watchdogRow d w at) at q (j .bound))
-step-falls d w (happening.Response at f) b =
-    let j = judged-falls d w at b in
-    then-falls j (quiet-falls (judged d w at) (watchdogRow d w at) false (j .bound))
-step-falls d w (happening.Clock at) b =
-    let j = judged-falls d w at b in
-    then-falls j (quiet-falls (judged d w at) (watchdogRow d w at) false (j .bound))
-step-falls d w (happening.Operator at «setSD_C» «ChFAck_C») b =
-    let j = judged-falls d w at b in
-    then-falls j (quiet-falls (judged d w at) (watchdogRow d w at) false (j .bound))
+step-counts : (d : Device) (w n : ℕ) (h : Happening) → Counts d n → CountsAfter (stepOf d w h) n
+unfolding stepOf watched quiet
+step-counts d w n (happening.Request at q) c = received-counts (judged d w at) (watchdogRow d w at) at n q (judged-counts d w at n c)
+step-counts d w n (happening.Response at f) c = judged-counts d w at n c
+step-counts d w n (happening.Clock at) c = judged-counts d w at n c
+step-counts d w n (happening.Operator at «setSD_C» «ChFAck_C») c = judged-counts d w at n c
 
-run-on : {d e : Device} {p n : ℕ} (released : Bool) → e .released ≡ released → d .released ≡ false → Falls d e p → (e .released ≡ false → e .SDcycles < n) → d .SDcycles < p + n
-run-on true r s f rest = ⊎-elim (λ z. no (cc)) (λ z. omega (arith, z .0, z .1)) (f .release r)
-run-on false r s f rest = omega (arith, f .cycles, rest r)
+module _ (at w : ℕ) where
+  counts : (past : List Happening) → Counts (deviceAfter at w past) (passedSince at w past)
+  unfolding deviceAfter passedSince
+  counts [] = record { cycles = omega arith; release = λ e. no (cc) }
+  counts (h ∷ past) = step-counts (deviceAfter at w past) w (passedSince at w past) h (counts past)
 
--- Whatever happens: a device that does not release goes on to release only after more passing SPDUs than SDcycles.
-pub cycles-first : (d : Device) (w : ℕ) (hs : List Happening) → d .SDcycles ≤ 3 → d .released ≡ false → run d w hs .released ≡ true → d .SDcycles < passes d w hs
-unfolding run passes
-cycles-first d w [] b s e = no (cc)
-cycles-first d w (h ∷ hs) b s e =
-    let f = step-falls d w h b in
-    run-on (stepOf d w h .device .released) refl s f (λ r. cycles-first (stepOf d w h .device) w hs (f .bound) r e)
-
--- So after a block not before four SPDUs have passed, SDcycles running from 3 to 0.
-pub after-block : (at w : ℕ) (hs : List Happening) → run (firstDevice at) w hs .released ≡ true → 3 < passes (firstDevice at) w hs
-after-block at w hs e = cycles-first (firstDevice at) w hs (omega arith) refl e
-
--- And likewise after T25, T29 with CommErr, T30 and T31.
-abbrev Held : Device → Type 0
-Held d = (d .SDcycles ≡ 3) × (d .released ≡ false)
-
-pub after-error : (d : Device) (at : ℕ) (setSD : Bool) → Held (acted d T25 at setSD true) × (Held (acted d T29 at setSD true) × (Held (acted d T30 at setSD true) × Held (acted d T31 at setSD true)))
-unfolding acted t25 t29 t30t31
-after-error d at setSD = ((refl, refl), ((refl, refl), ((refl, refl), (refl, refl))))
-
-pub held-back : (d : Device) (w : ℕ) (hs : List Happening) → Held d → run d w hs .released ≡ true → 3 < passes d w hs
-held-back d w hs h e = omega (arith, cycles-first d w hs (omega (arith, h .0)) (h .1) e, h .0)
+  -- After a block, an error or a timeout no release before SDcycles has run from 3 to 0: three SPDUs count it down, and a fourth releases.
+  pub cycles-first : (past : List Happening) → deviceAfter at w past .released ≡ true → 3 < passedSince at w past
+  cycles-first past e = counts past .release e

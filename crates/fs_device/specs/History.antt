@@ -5,14 +5,16 @@ use mathlib.Core.Bool.{Bool, true, false, cond, _&&_, _||_}
 use lib.Dec.{eqb}
 use mathlib.Core.List.{List, [], _∷_}
 use Rattle.scl.specs.Counts.{inverted}
+use Rattle.scl.specs.Happenings.{readingOf, isFailure}
 use Rattle.scl.specs.Moved.{moved}
 use Rattle.scl.specs.declared.Happening.{Happening}
 use Rattle.scl.specs.declared.Happening.the-variants as happening
 use Rattle.scl.specs.declared.Request.{Request}
 use Rattle.fs_device.specs.declared.Device.{Device}
 use Rattle.fs_device.specs.declared.Outcome.{Outcome}
-use Rattle.fs_device.specs.declared.Row.the-variants.{T22}
-use Rattle.fs_device.specs.Table40.{isTaken, countHolds}
+use Rattle.fs_device.specs.declared.Row.{Row}
+use Rattle.fs_device.specs.declared.Row.the-variants.{Stay, T22, T25, T28, T29, T30, T31}
+use Rattle.fs_device.specs.Table40.{firstDevice, isTaken, countHolds}
 use Rattle.fs_device.specs.Calls.{judged, stepOf}
 
 -- the SPDU that T22 releases, at a device whose watchdog has been judged
@@ -32,26 +34,44 @@ FreshBy d w (happening.Response at response) = ⊥
 FreshBy d w (happening.Clock at) = ⊥
 FreshBy d w (happening.Operator at «setSD_C» «ChFAck_C») = ⊥
 
--- after a list of happenings
-unfoldable pub run : Device → ℕ → List Happening → Device
-run d w [] = d
-run d w (h ∷ hs) = run (stepOf d w h .device) w hs
+-- after what happened since a block at this reading with this W, the latest first
+unfoldable pub deviceAfter : ℕ → ℕ → List Happening → Device
+deviceAfter at w [] = firstDevice at
+deviceAfter at w (h ∷ past) = stepOf (deviceAfter at w past) w h .device
 
--- how many of their SPDUs were taken and passed the checks
-unfoldable pub passes : Device → ℕ → List Happening → ℕ
-passes d w [] = 0
-passes d w (h ∷ hs) = cond (stepOf d w h .passed) 1 0 + passes (stepOf d w h .device) w hs
+-- an error or a timeout: T25, T29 with CommErr, T30, T31
+abbrev pub isErrorOrTimeout : Row → Bool → Bool
+isErrorOrTimeout Stay CommErr = false
+isErrorOrTimeout T22 CommErr = false
+isErrorOrTimeout T25 CommErr = true
+isErrorOrTimeout T28 CommErr = false
+isErrorOrTimeout T29 CommErr = CommErr
+isErrorOrTimeout T30 CommErr = true
+isErrorOrTimeout T31 CommErr = true
+
+-- how many SPDUs passed their checks since the block, or since the last error or timeout after it; of one call the watchdog's row comes first
+unfoldable pub passedSince : ℕ → ℕ → List Happening → ℕ
+passedSince at w [] = 0
+passedSince at w (h ∷ past) =
+    let o = stepOf (deviceAfter at w past) w h in
+    let before = cond (isErrorOrTimeout (o .watchdog) false) 0 (passedSince at w past) in
+    cond (isErrorOrTimeout (o .arrival) (isFailure (o .check))) 0 (cond (o .passed) (before + 1) before)
 
 -- once it has responded, DCount_i is the mirror of the MCount last taken
 abbrev pub Mirrors : Device → Type 0
 Mirrors d = d .responded ≡ true → d .«DCount_i» ≡ inverted (d .MCount)
 
--- the MCount last taken, after one more happening
-unfoldable pub lastTaken : Device → ℕ → Happening → ℕ
-lastTaken d w (happening.Request at q) = cond (isTaken (judged d w at) q) (q .MCount) (d .MCount)
-lastTaken d w (happening.Response at response) = d .MCount
-lastTaken d w (happening.Clock at) = d .MCount
-lastTaken d w (happening.Operator at «setSD_C» «ChFAck_C») = d .MCount
+-- MCount of the last SPDU taken, at a device whose watchdog has been judged: that of this happening's, else the one before
+unfoldable pub takenBy : Device → Happening → ℕ → ℕ
+takenBy d (happening.Request at q) before = cond (isTaken d q) (q .MCount) before
+takenBy d (happening.Response at response) before = before
+takenBy d (happening.Clock at) before = before
+takenBy d (happening.Operator at «setSD_C» «ChFAck_C») before = before
+
+-- R18: 0 after a block
+unfoldable pub lastTaken : ℕ → ℕ → List Happening → ℕ
+lastTaken at w [] = 0
+lastTaken at w (h ∷ past) = takenBy (judged (deviceAfter at w past) w (readingOf h)) h (lastTaken at w past)
 
 -- in one of the three waits
 abbrev pub waits : Device → Bool
