@@ -1,3 +1,4 @@
 pub mod Release
 pub mod Faults
 pub mod Moved
+pub mod Arises
