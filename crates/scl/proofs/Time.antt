@@ -1,13 +1,18 @@
 -- What elapsed time means. Assumes nothing.
 use Prim.Native.Nat.{ℕ, _+_, _-_, _%_, _^_, _<_, _≤_}
 use native.Mathlib.Omega.{arith}
-use mathlib.Core.Path.{_≡_}
+use mathlib.Core.Path.{_≡_, refl}
 use Rattle.scl.specs.Time.{elapsedOf}
+use Rattle.scl.specs.Moved.{moved}
 
 -- elapsed time is the one number below 2^32 that, added to the earlier reading, gives the later one modulo 2^32
 pub elapsed-is : (r now since : ℕ) → r < 2 ^ 32 → since < 2 ^ 32 → (r + since) % 2 ^ 32 ≡ now → r ≡ elapsedOf now since
 unfolding elapsedOf
 elapsed-is r now since r-fits since-fits e = omega arith
+
+-- with 01's numbers, over the wrap
+pub elapsed-met : 10 ≡ elapsedOf 4 4294967290
+elapsed-met = elapsed-is 10 4 4294967290 (omega arith) (omega arith) refl
 
 pub meaning : (now since : ℕ) → now < 2 ^ 32 → since < 2 ^ 32 → (elapsedOf now since + since) % 2 ^ 32 ≡ now
 unfolding elapsedOf
@@ -19,6 +24,6 @@ unfolding elapsedOf
 forward now since fits later = omega arith
 
 -- the wrap of the clock changes nothing: both readings moved by the same amount
-pub shifted : (now since k : ℕ) → now < 2 ^ 32 → since < 2 ^ 32 → elapsedOf ((now + k) % 2 ^ 32) ((since + k) % 2 ^ 32) ≡ elapsedOf now since
+pub shifted : (now since k : ℕ) → now < 2 ^ 32 → since < 2 ^ 32 → elapsedOf (moved k now) (moved k since) ≡ elapsedOf now since
 unfolding elapsedOf
 shifted now since k now-fits since-fits = omega arith
