@@ -19,7 +19,7 @@ use Rattle.fs_device.specs.declared.Row.{Row}
 use Rattle.fs_device.specs.declared.Row.the-variants.{Stay, T22, T25, T28, T29, T30, T31}
 use Rattle.fs_device.specs.Table40.{watchdogRow, isOld, isTaken, checked, arrivalRow, taken, t22, t25, t28, t29, t30t31, acted}
 use Rattle.fs_device.specs.Calls.{judged, quiet, arrived, received, watched, stepOf, stands}
-use Rattle.fs_device.specs.History.{deviceAfter, passedSince, Releases, waits, sound}
+use Rattle.fs_device.specs.History.{deviceAfter, passedSince, hadErrorOrTimeout, Releases, waits, sound}
 
 -- an SPDU with this MCount and setSD, whose signature and port number hold or not
 abbrev request : ℕ → Bool → Bool → Bool → Request
@@ -107,14 +107,18 @@ upTo zero past later = past
 upTo (suc n) past [] = past
 upTo (suc n) past (h ∷ later) = upTo n (h ∷ past) later
 
--- the device before the call of this number, the first being 0
-unfoldable pub deviceBefore : ℕ → Device
-deviceBefore n = deviceAfter block 100 (upTo n [] (map (λ row. row .0) worked))
+-- what happened before the call of this number, the first being 0, and the device that it left
+abbrev pastBefore : ℕ → List Happening
+pastBefore n = upTo n [] (map (λ row. row .0) worked)
+
+abbrev deviceBefore : ℕ → Device
+deviceBefore n = deviceAfter block 100 (pastBefore n)
 
 -- what the theorems of that name ask; what `fresh-only` and `stands-same` ask stands in the table
 pub record Met : Type 0 where
   pub fresh-if : Releases (judged (deviceBefore 6) 100 44) (intact 3)
   pub cycles-first : deviceBefore 7 .released ≡ true
+  pub after-error : (hadErrorOrTimeout block 100 (pastBefore 18) ≡ true) × (deviceBefore 18 .released ≡ true)
   pub mirrored : deviceBefore 7 .responded ≡ true
   pub in-time : elapsedOf 144 (deviceBefore 7 .DTimer) ≤ 100
   pub moved-step : (deviceBefore 7 .DTimer < 2 ^ 32) × (readingOf (response 144) < 2 ^ 32)
@@ -123,10 +127,11 @@ pub record Met : Type 0 where
   pub damaged-safe : (waits (deviceBefore 10) ≡ true) × ((isOld (judged (deviceBefore 10) 100 164) (damaged 6) ≡ false) × (sound (judged (deviceBefore 10) 100 164) (damaged 6) ≡ false))
 
 pub met : Met
-unfolding worked upTo deviceBefore deviceAfter stepOf watched received arrived quiet judged acted watchdogRow isTaken checked arrivalRow taken t22 t25 t28 t29 t30t31 elapsedOf
+unfolding worked upTo deviceAfter hadErrorOrTimeout stepOf watched received arrived quiet judged acted watchdogRow isTaken checked arrivalRow taken t22 t25 t28 t29 t30t31 elapsedOf
 met = record {
   fresh-if = record { taken = refl; regular = refl; signature = refl; port = refl; count = refl; cycles = refl; not-set = refl };
   cycles-first = refl;
+  after-error = (refl, refl);
   mirrored = refl;
   in-time = omega arith;
   moved-step = (omega arith, omega arith);

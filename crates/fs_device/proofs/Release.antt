@@ -21,7 +21,7 @@ use Rattle.fs_device.specs.declared.Row.{Row}
 use Rattle.fs_device.specs.declared.Row.the-variants.{Stay, T22, T25, T28, T29, T30, T31}
 use Rattle.fs_device.specs.Table40.{timeoutRow, watchdogRow, isOld, isTaken, countHolds, checked, arrivalRow, taken, t22, t25, t28, t29, t30t31, acted, firstDevice}
 use Rattle.fs_device.specs.Calls.{judged, quiet, arrived, received, watched, stepOf}
-use Rattle.fs_device.specs.History.{Releases, FreshBy, deviceAfter, isErrorOrTimeout, passedSince}
+use Rattle.fs_device.specs.History.{Releases, FreshBy, deviceAfter, isErrorOrTimeout, passedSince, hadErrorOrTimeout}
 
 goes-on : {A : Type 0} → GoesOn ≡ Fresh → A
 goes-on e = let z : _≡_ {A = ℕ} 0 1 = cc in absurd (omega arith)
@@ -96,65 +96,81 @@ pub fresh-if : (d : Device) (w at : ℕ) (q : Request) → Releases (judged d w 
 unfolding stepOf received
 fresh-if d w at q c = rw (c .taken) (arrived-fresh (judged d w at) (watchdogRow d w at) at q c)
 
--- n SPDUs have passed since SDcycles was 3: it has fallen by at most n, and release needs one more
-record Counts (d : Device) (n : ℕ) : Type 0 where
-  pub cycles : 3 ≤ d .SDcycles + n
-  pub release : d .released ≡ true → 3 < n
+-- how many are to pass before one may release: SDcycles' three, and after an error or a timeout T28's
+abbrev before : Bool → ℕ
+before erred = cond erred 4 3
 
--- the number after the watchdog's row, and after the arrival's
-abbrev judgedTo : Row → ℕ → ℕ
-judgedTo r n = cond (isErrorOrTimeout r false) 0 n
+-- n have passed: those left are SDcycles' and, in 26, T28's
+record Counts (d : Device) (n : ℕ) (erred : Bool) : Type 0 where
+  pub cycles : before erred ≤ d .SDcycles + n + cond (eqb (d .state) 26) 1 0
+  pub release : d .released ≡ true → before erred < n
 
-abbrev arrivedTo : Row → Bool → Bool → ℕ → ℕ
-arrivedTo r CommErr passed n = cond (isErrorOrTimeout r CommErr) 0 (cond passed (n + 1) n)
+-- after the watchdog's row, and after the arrival's
+abbrev CountsJudged : Row → Device → ℕ → Bool → Type 0
+CountsJudged r d n erred = Counts d (cond (isErrorOrTimeout r false) 0 n) (isErrorOrTimeout r false || erred)
 
-abbrev CountsAfter : Outcome → ℕ → Type 0
-CountsAfter o n = Counts (o .device) (arrivedTo (o .arrival) (isFailure (o .check)) (o .passed) (judgedTo (o .watchdog) n))
+abbrev CountsArrived : Row → Bool → Bool → Device → ℕ → Bool → Type 0
+CountsArrived r CommErr passed d n erred = Counts d (cond (isErrorOrTimeout r CommErr) 0 (cond passed (n + 1) n)) (isErrorOrTimeout r CommErr || erred)
 
-row-counts : (d : Device) (q : Request) (at n : ℕ) (CommErr : Bool) → Counts d n → Counts (acted (taken d q) (arrivalRow d CommErr) at (q .setSD) CommErr) (arrivedTo (arrivalRow d CommErr) CommErr (not CommErr) n)
+abbrev CountsAfter : Outcome → ℕ → Bool → Type 0
+CountsAfter o n erred =
+    CountsArrived (o .arrival) (isFailure (o .check)) (o .passed) (o .device) (cond (isErrorOrTimeout (o .watchdog) false) 0 n) (isErrorOrTimeout (o .watchdog) false || erred)
+
+row-counts : (d : Device) (q : Request) (at n : ℕ) (erred CommErr : Bool) → Counts d n erred → CountsArrived (arrivalRow d CommErr) CommErr (not CommErr) (acted (taken d q) (arrivalRow d CommErr) at (q .setSD) CommErr) n erred
 unfolding arrivalRow acted taken t22 t25 t28 t29
-row-counts d q at n true c =
-    cond-case (λ (r : Row). Counts (acted (taken d q) r at (q .setSD) true) (arrivedTo r true false n)) (eqb (d .state) 26)
+row-counts d q at n erred true c =
+    cond-case (λ (r : Row). CountsArrived r true false (acted (taken d q) r at (q .setSD) true) n erred) (eqb (d .state) 26)
     (λ _. record { cycles = omega arith; release = λ e. no (cc) })
     (λ _. record { cycles = omega arith; release = λ e. no (cc) })
-row-counts d q at n false c =
-    cond-case (λ (r : Row). Counts (acted (taken d q) r at (q .setSD) false) (arrivedTo r false true n)) (eqb (d .state) 26)
-    (λ _. cond-case (λ (r : Row). Counts (acted (taken d q) r at (q .setSD) false) (arrivedTo r false true n)) (not (eqb (d .SDcycles) 0))
-    (λ _. record { cycles = omega (arith, c .cycles); release = λ e. no (cc) })
-    (λ _. record { cycles = omega (arith, c .cycles); release = λ e. no (cc) }))
-    (λ _. record { cycles = omega (arith, c .cycles); release = λ e. omega (arith, c .cycles, t22-asks (d .SDcycles) (q .setSD) e .0) })
+row-counts d q at n erred false c =
+    cond-case (λ (r : Row). CountsArrived r false true (acted (taken d q) r at (q .setSD) false) n erred) (eqb (d .state) 26)
+    (λ s. cond-case (λ (r : Row). CountsArrived r false true (acted (taken d q) r at (q .setSD) false) n erred) (not (eqb (d .SDcycles) 0))
+    (λ _. record { cycles = omega (arith, simp s at (c .cycles)); release = λ e. no (cc) })
+    (λ _. record { cycles = omega (arith, simp s at (c .cycles)); release = λ e. no (cc) }))
+    (λ s. record { cycles = omega (arith, simp s at (c .cycles)); release = λ e. omega (arith, simp s at (c .cycles), t22-asks (d .SDcycles) (q .setSD) e .0) })
 
-received-counts : (d : Device) (r : Row) (at n : ℕ) (q : Request) → Counts d (judgedTo r n) → CountsAfter (received d r at q) n
+received-counts : (d : Device) (r : Row) (at n : ℕ) (q : Request) (erred : Bool) → CountsJudged r d n erred → CountsAfter (received d r at q) n erred
 unfolding received arrived quiet
-received-counts d r at n q c =
-    cond-case (λ (o : Outcome). CountsAfter o n) (isTaken d q) (λ _. row-counts d q at (judgedTo r n) (isFailure (checked d q)) c) (λ _. c)
+received-counts d r at n q erred c =
+    cond-case (λ (o : Outcome). CountsAfter o n erred) (isTaken d q)
+    (λ _. row-counts d q at (cond (isErrorOrTimeout r false) 0 n) (isErrorOrTimeout r false || erred) (isFailure (checked d q)) c)
+    (λ _. c)
 
-judged-counts : (d : Device) (w at n : ℕ) → Counts d n → Counts (judged d w at) (judgedTo (watchdogRow d w at) n)
+judged-counts : (d : Device) (w at n : ℕ) (erred : Bool) → Counts d n erred → CountsJudged (watchdogRow d w at) (judged d w at) n erred
 unfolding judged watchdogRow acted t30t31
-judged-counts d w at n c =
+judged-counts d w at n erred c =
     cond-case P (d .runs && expiredOf at (d .DTimer) w)
     (λ _. cond-case P (eqb (d .state) 24) (λ _. late) (λ _. cond-case P (eqb (d .state) 26) (λ _. late) (λ _. c)))
     (λ _. c)
   where
     P : Row → Type 0
-    P r = Counts (acted d r at false false) (judgedTo r n)
+    P r = CountsJudged r (acted d r at false false) n erred
 
-    late : Counts (t30t31 d at) 0
+    late : Counts (t30t31 d at) 0 true
     late = record { cycles = omega arith; release = λ e. no (cc) }
 
-step-counts : (d : Device) (w n : ℕ) (h : Happening) → Counts d n → CountsAfter (stepOf d w h) n
+step-counts : (d : Device) (w n : ℕ) (erred : Bool) (h : Happening) → Counts d n erred → CountsAfter (stepOf d w h) n erred
 unfolding stepOf watched quiet
-step-counts d w n (happening.Request at q) c = received-counts (judged d w at) (watchdogRow d w at) at n q (judged-counts d w at n c)
-step-counts d w n (happening.Response at f) c = judged-counts d w at n c
-step-counts d w n (happening.Clock at) c = judged-counts d w at n c
-step-counts d w n (happening.Operator at «setSD_C» «ChFAck_C») c = judged-counts d w at n c
+step-counts d w n erred (happening.Request at q) c = received-counts (judged d w at) (watchdogRow d w at) at n q erred (judged-counts d w at n erred c)
+step-counts d w n erred (happening.Response at f) c = judged-counts d w at n erred c
+step-counts d w n erred (happening.Clock at) c = judged-counts d w at n erred c
+step-counts d w n erred (happening.Operator at «setSD_C» «ChFAck_C») c = judged-counts d w at n erred c
 
 module _ (at w : ℕ) where
-  counts : (past : List Happening) → Counts (deviceAfter at w past) (passedSince at w past)
-  unfolding deviceAfter passedSince
+  counts : (past : List Happening) → Counts (deviceAfter at w past) (passedSince at w past) (hadErrorOrTimeout at w past)
+  unfolding deviceAfter passedSince hadErrorOrTimeout
   counts [] = record { cycles = omega arith; release = λ e. no (cc) }
-  counts (h ∷ past) = step-counts (deviceAfter at w past) w (passedSince at w past) h (counts past)
+  counts (h ∷ past) =
+      step-counts (deviceAfter at w past) w (passedSince at w past) (hadErrorOrTimeout at w past) h (counts past)
 
-  -- After a block, an error or a timeout no release before SDcycles has run from 3 to 0: three SPDUs count it down, and a fourth releases.
+  -- After a block, an error or a timeout no release before SDcycles has run from 3 to 0: three SPDUs count it down, and a fourth releases;
   pub cycles-first : (past : List Happening) → deviceAfter at w past .released ≡ true → 3 < passedSince at w past
-  cycles-first past e = counts past .release e
+  cycles-first past e = at-least (hadErrorOrTimeout at w past) (counts past .release e)
+    where
+      at-least : (erred : Bool) {n : ℕ} → before erred < n → 3 < n
+      at-least true l = omega arith
+      at-least false l = l
+
+  -- after an error or a timeout, a fifth, as T28 takes one.
+  pub after-error : (past : List Happening) → hadErrorOrTimeout at w past ≡ true → deviceAfter at w past .released ≡ true → 4 < passedSince at w past
+  after-error past had e = rw had at (counts past .release e)

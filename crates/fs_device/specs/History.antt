@@ -57,6 +57,13 @@ passedSince at w (h ∷ past) =
     let before = cond (isErrorOrTimeout (o .watchdog) false) 0 (passedSince at w past) in
     cond (isErrorOrTimeout (o .arrival) (isFailure (o .check))) 0 (cond (o .passed) (before + 1) before)
 
+-- whether there was one
+unfoldable pub hadErrorOrTimeout : ℕ → ℕ → List Happening → Bool
+hadErrorOrTimeout at w [] = false
+hadErrorOrTimeout at w (h ∷ past) =
+    let o = stepOf (deviceAfter at w past) w h in
+    isErrorOrTimeout (o .arrival) (isFailure (o .check)) || (isErrorOrTimeout (o .watchdog) false || hadErrorOrTimeout at w past)
+
 -- once it has responded, DCount_i is the mirror of the MCount last taken
 abbrev pub Mirrors : Device → Type 0
 Mirrors d = d .responded ≡ true → d .«DCount_i» ≡ inverted (d .MCount)
