@@ -6,7 +6,6 @@ use mathlib.Core.List.{List, [], _∷_}
 use lib.Dec.{eqb}
 use borrow.Author.Tests.{le-ltb, not-true}
 use Rattle.scl.specs.Time.{elapsedOf, expiredOf}
-use Rattle.scl.specs.Counts.{inverted}
 use Rattle.scl.specs.Happenings.{readingOf, checkOf, isFailure}
 use Rattle.scl.specs.declared.Happening.{Happening}
 use Rattle.scl.specs.declared.Happening.the-variants as happening
@@ -17,9 +16,10 @@ use Rattle.scl.specs.declared.Request.{Request}
 use Rattle.fs_device.specs.declared.Device.{Device}
 use Rattle.fs_device.specs.declared.Outcome.{Outcome}
 use Rattle.fs_device.specs.declared.Row.{Row}
-use Rattle.fs_device.specs.declared.Row.the-variants.{Stay, T22, T25, T28, T29, T30, T31}
+use Rattle.fs_device.specs.declared.Row.the-variants.{Stay}
 use Rattle.fs_device.specs.Table40.{timeoutRow, watchdogRow, isOld, isTaken, countHolds, checked, arrivalRow, taken, t22, t25, t28, t29, t30t31, acted}
 use Rattle.fs_device.specs.Calls.{judged, quiet, arrived, received, watched, stepOf, stands}
+use Rattle.fs_device.proofs.Rows.{judged-case, row-case}
 use Rattle.fs_device.specs.History.{deviceAfter, Mirrors, takenBy, lastTaken, waits, sound}
 
 -- Time
@@ -49,35 +49,17 @@ stands-same d w (happening.Response at f) e = judged-stands d w at e
 stands-same d w (happening.Clock at) e = judged-stands d w at e
 stands-same d w (happening.Operator at «setSD_C» «ChFAck_C») e = judged-stands d w at e
 
--- the watchdog's rows, and the rows of an SPDU that is taken, one by one
-module _ (d : Device) (w at : ℕ) (P : Device → Type 0) where
-  judged-case : P d → P (t30t31 d at) → P (judged d w at)
-  unfolding judged watchdogRow acted
-  judged-case stay late =
-      cond-case (λ (r : Row). P (acted d r at false false)) (d .runs && expiredOf at (d .DTimer) w)
-      (λ _. cond-case (λ (r : Row). P (acted d r at false false)) (eqb (d .state) 24) (λ _. late)
-      (λ _. cond-case (λ (r : Row). P (acted d r at false false)) (eqb (d .state) 26) (λ _. late) (λ _. stay)))
-      (λ _. stay)
-
-module _ (d : Device) (at : ℕ) (q : Request) (P : Device → Type 0) where
-  row-case : (CommErr : Bool) → P (t22 (taken d q) at (q .setSD)) → P (t25 (taken d q) at) → P (t28 (taken d q) at) → P (t29 (taken d q) at CommErr) → P (acted (taken d q) (arrivalRow d CommErr) at (q .setSD) CommErr)
-  unfolding arrivalRow acted
-  row-case CommErr p22 p25 p28 p29 =
-      cond-case (λ (r : Row). P (acted (taken d q) r at (q .setSD) CommErr)) (eqb (d .state) 26)
-      (λ _. cond-case (λ (r : Row). P (acted (taken d q) r at (q .setSD) CommErr)) (CommErr || not (eqb (d .SDcycles) 0)) (λ _. p29) (λ _. p28))
-      (λ _. cond-case (λ (r : Row). P (acted (taken d q) r at (q .setSD) CommErr)) CommErr (λ _. p25) (λ _. p22))
-
 -- Counts
 
 judged-mirrors : (d : Device) (w at : ℕ) → Mirrors d → Mirrors (judged d w at)
 unfolding t30t31
-judged-mirrors d w at h = judged-case d w at Mirrors h (λ _. refl)
+judged-mirrors d w at h = judged-case d w at (λ _ e. Mirrors e) h (λ _. refl) (λ _. refl)
 
 received-mirrors : (d : Device) (r : Row) (at : ℕ) (q : Request) → Mirrors d → Mirrors (received d r at q .device)
 unfolding received arrived quiet t22 t25 t28 t29
 received-mirrors d r at q h =
     cond-case (λ (o : Outcome). Mirrors (o .device)) (isTaken d q)
-    (λ _. row-case d at q Mirrors (isFailure (checked d q)) (λ _. refl) (λ _. refl) (λ _. refl) (λ _. refl))
+    (λ _. row-case d at q (λ _ _ e. Mirrors e) (isFailure (checked d q)) (λ _ _. refl) (λ _. refl) (λ _ _. refl) (λ _ _. refl))
     (λ _. h)
 
 step-mirrors : (d : Device) (w : ℕ) (h : Happening) → Mirrors d → Mirrors (stepOf d w h .device)
@@ -95,13 +77,13 @@ mirrored at w (h ∷ past) = step-mirrors (deviceAfter at w past) w h (mirrored 
 
 judged-count : (d : Device) (w at n : ℕ) → d .MCount ≡ n → judged d w at .MCount ≡ n
 unfolding t30t31
-judged-count d w at n e = judged-case d w at (λ (j : Device). j .MCount ≡ n) e e
+judged-count d w at n e = judged-case d w at (λ _ j. j .MCount ≡ n) e e e
 
 received-count : (d : Device) (r : Row) (at n : ℕ) (q : Request) → d .MCount ≡ n → received d r at q .device .MCount ≡ cond (isTaken d q) (q .MCount) n
 unfolding received arrived quiet t22 t25 t28 t29 taken
 received-count d r at n q e =
     cond-both (λ (o : Outcome) (m : ℕ). o .device .MCount ≡ m) (isTaken d q)
-    (row-case d at q (λ (j : Device). j .MCount ≡ q .MCount) (isFailure (checked d q)) refl refl refl refl)
+    (row-case d at q (λ _ _ j. j .MCount ≡ q .MCount) (isFailure (checked d q)) (λ _. refl) refl (λ _. refl) (λ _. refl))
     e
 
 step-count : (d : Device) (w n : ℕ) (h : Happening) → d .MCount ≡ n → stepOf d w h .device .MCount ≡ takenBy (judged d w (readingOf h)) h n
@@ -121,13 +103,13 @@ last-taken at w (h ∷ past) = step-count (deviceAfter at w past) w (lastTaken a
 
 judged-waits : (d : Device) (w at : ℕ) → waits d ≡ true → waits (judged d w at) ≡ true
 unfolding t30t31
-judged-waits d w at h = judged-case d w at (λ (e : Device). waits e ≡ true) h refl
+judged-waits d w at h = judged-case d w at (λ _ e. waits e ≡ true) h refl refl
 
 received-waits : (d : Device) (r : Row) (at : ℕ) (q : Request) → waits d ≡ true → waits (received d r at q .device) ≡ true
 unfolding received arrived quiet t22 t25 t28 t29
 received-waits d r at q h =
     cond-case (λ (o : Outcome). waits (o .device) ≡ true) (isTaken d q)
-    (λ _. row-case d at q (λ (e : Device). waits e ≡ true) (isFailure (checked d q)) refl refl refl refl)
+    (λ _. row-case d at q (λ _ _ e. waits e ≡ true) (isFailure (checked d q)) (λ _. refl) refl (λ _. refl) (λ _. refl))
     (λ _. h)
 
 -- The FS-Device rests in 21, 24 or 26, from a block on.

@@ -1,3 +1,4 @@
+pub mod Rows
 pub mod Release
 pub mod Faults
 pub mod Moved

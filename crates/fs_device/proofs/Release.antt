@@ -6,21 +6,20 @@ use mathlib.Core.Bool.{Bool, true, false, cond, not, _&&_, _||_}
 use mathlib.Core.List.{List, [], _∷_}
 use lib.Dec.{eqb}
 use borrow.Author.Tests.{eqb-true, not-true, not-false}
-use Rattle.scl.specs.Time.{expiredOf}
 use Rattle.scl.specs.Happenings.{checkOf, isFailure, markOf}
 use Rattle.scl.specs.declared.Happening.{Happening}
 use Rattle.scl.specs.declared.Happening.the-variants as happening
 use Rattle.scl.specs.declared.Mark.{Mark}
 use Rattle.scl.specs.declared.Mark.the-variants.{Fresh, GoesOn, Safe}
-use Rattle.scl.specs.declared.Check.{Check}
-use Rattle.scl.proofs.Cases.{cond-case, no, and-left, and-right, or-left, or-right}
+use Rattle.scl.proofs.Cases.{cond-case, no, and-left, and-right}
 use Rattle.scl.specs.declared.Request.{Request}
 use Rattle.fs_device.specs.declared.Device.{Device}
 use Rattle.fs_device.specs.declared.Outcome.{Outcome}
 use Rattle.fs_device.specs.declared.Row.{Row}
-use Rattle.fs_device.specs.declared.Row.the-variants.{Stay, T22, T25, T28, T29, T30, T31}
-use Rattle.fs_device.specs.Table40.{timeoutRow, watchdogRow, isOld, isTaken, countHolds, checked, arrivalRow, taken, t22, t25, t28, t29, t30t31, acted, firstDevice}
+use Rattle.fs_device.specs.declared.Row.the-variants.{T22, T29}
+use Rattle.fs_device.specs.Table40.{watchdogRow, isOld, isTaken, countHolds, checked, arrivalRow, taken, t22, t25, t28, t29, t30t31, acted}
 use Rattle.fs_device.specs.Calls.{judged, quiet, arrived, received, watched, stepOf}
+use Rattle.fs_device.proofs.Rows.{judged-case, row-case}
 use Rattle.fs_device.specs.History.{Releases, FreshBy, deviceAfter, isErrorOrTimeout, passedSince, hadErrorOrTimeout}
 
 goes-on : {A : Type 0} → GoesOn ≡ Fresh → A
@@ -56,15 +55,13 @@ t22-asks n set e = (
 )
 
 row-asks : (d : Device) (q : Request) (at : ℕ) (CommErr : Bool) → acted (taken d q) (arrivalRow d CommErr) at (q .setSD) CommErr .released ≡ true → Asked d q CommErr (arrivalRow d CommErr)
-unfolding arrivalRow acted taken t22 t25 t28 t29
-row-asks d q at true =
-    cond-case (λ (r : Row). acted (taken d q) r at (q .setSD) true .released ≡ true → Asked d q true r) (eqb (d .state) 26)
-    (λ _ e. no (cc))
-    (λ _ e. no (cc))
-row-asks d q at false =
-    cond-case (λ (r : Row). acted (taken d q) r at (q .setSD) false .released ≡ true → Asked d q false r) (eqb (d .state) 26)
-    (λ _. cond-case (λ (r : Row). acted (taken d q) r at (q .setSD) false .released ≡ true → Asked d q false r) (not (eqb (d .SDcycles) 0)) (λ _ e. no (cc)) (λ _ e. no (cc)))
+unfolding taken t22 t25 t28 t29
+row-asks d q at CommErr =
+    row-case d at q (λ r CommErr a. a .released ≡ true → Asked d q CommErr r) CommErr
     (λ s e. ((refl, (refl, t22-asks (d .SDcycles) (q .setSD) e)), s))
+    (λ e. no (cc))
+    (λ _ e. no (cc))
+    (λ _ e. no (cc))
 
 answered-fresh : (d : Device) (r : Row) (at : ℕ) (q : Request) → isTaken d q ≡ true → arrived d r at q (checked d q) .mark ≡ Fresh → Releases d q × (arrived d r at q (checked d q) .arrival ≡ T22)
 unfolding arrived checked
@@ -116,18 +113,19 @@ abbrev CountsAfter : Outcome → ℕ → Bool → Type 0
 CountsAfter o n erred =
     CountsArrived (o .arrival) (isFailure (o .check)) (o .passed) (o .device) (cond (isErrorOrTimeout (o .watchdog) false) 0 n) (isErrorOrTimeout (o .watchdog) false || erred)
 
+t29-counts : (d : Device) (q : Request) (at n : ℕ) (erred CommErr : Bool) → Counts d n erred → eqb (d .state) 26 ≡ true → CountsArrived T29 CommErr (not CommErr) (t29 (taken d q) at CommErr) n erred
+unfolding taken t29
+t29-counts d q at n erred true c s = record { cycles = omega arith; release = λ e. no (cc) }
+t29-counts d q at n erred false c s = record { cycles = omega (arith, simp s at (c .cycles)); release = λ e. no (cc) }
+
 row-counts : (d : Device) (q : Request) (at n : ℕ) (erred CommErr : Bool) → Counts d n erred → CountsArrived (arrivalRow d CommErr) CommErr (not CommErr) (acted (taken d q) (arrivalRow d CommErr) at (q .setSD) CommErr) n erred
-unfolding arrivalRow acted taken t22 t25 t28 t29
-row-counts d q at n erred true c =
-    cond-case (λ (r : Row). CountsArrived r true false (acted (taken d q) r at (q .setSD) true) n erred) (eqb (d .state) 26)
-    (λ _. record { cycles = omega arith; release = λ e. no (cc) })
-    (λ _. record { cycles = omega arith; release = λ e. no (cc) })
-row-counts d q at n erred false c =
-    cond-case (λ (r : Row). CountsArrived r false true (acted (taken d q) r at (q .setSD) false) n erred) (eqb (d .state) 26)
-    (λ s. cond-case (λ (r : Row). CountsArrived r false true (acted (taken d q) r at (q .setSD) false) n erred) (not (eqb (d .SDcycles) 0))
-    (λ _. record { cycles = omega (arith, simp s at (c .cycles)); release = λ e. no (cc) })
-    (λ _. record { cycles = omega (arith, simp s at (c .cycles)); release = λ e. no (cc) }))
+unfolding taken t22 t25 t28
+row-counts d q at n erred CommErr c =
+    row-case d at q (λ r CommErr a. CountsArrived r CommErr (not CommErr) a n erred) CommErr
     (λ s. record { cycles = omega (arith, simp s at (c .cycles)); release = λ e. omega (arith, simp s at (c .cycles), t22-asks (d .SDcycles) (q .setSD) e .0) })
+    (record { cycles = omega arith; release = λ e. no (cc) })
+    (λ s. record { cycles = omega (arith, simp s at (c .cycles)); release = λ e. no (cc) })
+    (t29-counts d q at n erred CommErr c)
 
 received-counts : (d : Device) (r : Row) (at n : ℕ) (q : Request) (erred : Bool) → CountsJudged r d n erred → CountsAfter (received d r at q) n erred
 unfolding received arrived quiet
@@ -137,15 +135,9 @@ received-counts d r at n q erred c =
     (λ _. c)
 
 judged-counts : (d : Device) (w at n : ℕ) (erred : Bool) → Counts d n erred → CountsJudged (watchdogRow d w at) (judged d w at) n erred
-unfolding judged watchdogRow acted t30t31
-judged-counts d w at n erred c =
-    cond-case P (d .runs && expiredOf at (d .DTimer) w)
-    (λ _. cond-case P (eqb (d .state) 24) (λ _. late) (λ _. cond-case P (eqb (d .state) 26) (λ _. late) (λ _. c)))
-    (λ _. c)
+unfolding t30t31
+judged-counts d w at n erred c = judged-case d w at (λ r j. CountsJudged r j n erred) c late late
   where
-    P : Row → Type 0
-    P r = CountsJudged r (acted d r at false false) n erred
-
     late : Counts (t30t31 d at) 0 true
     late = record { cycles = omega arith; release = λ e. no (cc) }
 
