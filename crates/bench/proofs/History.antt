@@ -22,6 +22,7 @@ use Rattle.scl.specs.declared.Happening.the-variants as happening
 use Rattle.scl.proofs.Cases.{no, and-right}
 use Rattle.fs_master.specs.declared.Master.{Master}
 use Rattle.fs_master.specs.Calls as masters
+use Rattle.fs_master.specs.History.{masterAfter}
 use Rattle.fs_device.specs.declared.Device.{Device}
 use Rattle.fs_device.specs.Calls as devices
 use Rattle.histogram.specs.declared.Histogram.{Histogram}
@@ -32,7 +33,7 @@ use Rattle.histogram.proofs.Samples.{within-more}
 use Rattle.bench.specs.declared.Port.{Port}
 use Rattle.bench.specs.declared.Bench.{Bench}
 use Rattle.bench.specs.Ports.{newPort, acceptedPort, portAt, sentAt, tallied, stepOf}
-use Rattle.bench.specs.History.{Call, SetParameters, ReceiveResponse, ReceiveRequest, Clock, Operator, Compose, BuildResponse, Split, Trend, Bins, ShowMaster, ShowDevice, portOf, rulesOf, answerOf, after, history, Since, never, since, goesOn, extended, sinceBlock, masterAfter, deviceAfter, timeOf, isSample, samples, StandsSince, Stands}
+use Rattle.bench.specs.History.{Call, SetParameters, ReceiveResponse, ReceiveRequest, Clock, Operator, Compose, BuildResponse, Split, Trend, Bins, ShowMaster, ShowDevice, portOf, rulesOf, answerOf, after, history, Since, never, since, goesOn, extended, sinceBlock, deviceAfter, timeOf, isSample, samples, StandsSince, Stands}
 use Rattle.bench.proofs.Index.{new-at}
 use Rattle.bench.proofs.Answers.{answer-is, exactly, refused-same}
 use Rattle.bench.proofs.AtPort.{eight, takenAt, taken-at, other-at}

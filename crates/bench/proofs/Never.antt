@@ -29,7 +29,8 @@ use Rattle.scl.specs.declared.Happening.the-variants as happening
 use Rattle.scl.proofs.Cases.{cond-case, no}
 use Rattle.fs_master.specs.declared.Master.{Master}
 use Rattle.fs_master.specs.Table38 as table38
-use Rattle.fs_master.proofs.Counts.{count-below}
+use Rattle.fs_master.specs.History.{masterAfter, judgedIn}
+use Rattle.fs_master.proofs.Counts.{count-below, always-held}
 use Rattle.fs_device.specs.declared.Device.{Device}
 use Rattle.fs_device.specs.declared.Outcome.{Outcome}
 use Rattle.fs_device.specs.declared.Row.{Row}
@@ -43,9 +44,8 @@ use Rattle.bench.specs.declared.Port.{Port}
 use Rattle.bench.specs.Ports.{newPort, portAt}
 use Rattle.bench.specs.Calls.{placed, parametersAs}
 use Rattle.bench.specs.Ports.{silent}
-use Rattle.bench.specs.History.{Call, SetParameters, ReceiveResponse, ReceiveRequest, Clock, Operator, Compose, BuildResponse, Split, Trend, Bins, ShowMaster, ShowDevice, portOf, answerOf, history, Since, never, since, goesOn, extended, sinceBlock, masterAfter, deviceAfter, judgedIn, Previous, previousBy, lastTaken, StandsSince, Stands, Arising, blockIn, OctetsIn, no-call, one-more}
+use Rattle.bench.specs.History.{Call, SetParameters, ReceiveResponse, ReceiveRequest, Clock, Operator, Compose, BuildResponse, Split, Trend, Bins, ShowMaster, ShowDevice, portOf, answerOf, history, Since, never, since, goesOn, extended, sinceBlock, deviceAfter, Previous, previousBy, lastTaken, StandsSince, Stands, Arising, blockIn, OctetsIn, no-call, one-more}
 use Rattle.bench.proofs.Samples.{previous-is}
-use Rattle.bench.proofs.Release.{always-held}
 use Rattle.bench.proofs.History.{stands}
 
 -- ---- what is read of an SPDU

@@ -16,12 +16,12 @@ use Rattle.fs_master.specs.declared.Master.{Master}
 use Rattle.fs_master.specs.declared.Row.{Row}
 use Rattle.fs_master.specs.Table38.{firstMaster, watchdogRow, isTaken, isOld, sampleFrom, t8, t14, acted, signalled}
 use Rattle.fs_master.specs.Calls.{judged, quiet, watched, operated, stepOf}
-use Rattle.fs_master.specs.History.{sound}
+use Rattle.fs_master.specs.History.{sound, masterAfter, judgedIn, passesBy}
 use Rattle.fs_master.proofs.Rows.{timeout-case}
 use Rattle.fs_master.proofs.Counts.{another-count}
-use Rattle.fs_master.proofs.Samples.{judged-start, step-start, step-watchdog, step-passed, step-old, Kept, judged-kept, response-kept}
+use Rattle.fs_master.proofs.Samples.{judged-start, step-start, step-watchdog, step-passed, passes-as, step-old, Kept, judged-kept, response-kept}
 use Rattle.bench.specs.Ports.{sentAt}
-use Rattle.bench.specs.History.{masterAfter, judgedIn, passesBy, oldBy, whileSame, sentSince, answered, timeOf, isSample, Previous, previousBy, lastTaken}
+use Rattle.bench.specs.History.{oldBy, whileSame, sentSince, answered, timeOf, isSample, Previous, previousBy, lastTaken}
 
 module _ (at w : ℕ) where
   -- ---- the stored start is the reading of the last call since the block in which MCount took another value, or the block's
@@ -54,14 +54,7 @@ module _ (at w : ℕ) where
   previous-is [] = record { previous-is = refl; carried-is = refl; awaited-is = refl }
   previous-is (h ∷ past) = kept-by (masterAfter at w past) h (lastTaken at w past) (previous-is past)
 
-  -- ---- what passes, and what is old, as the FS-Master's outcome says it
-  pub passes-as : (m : Master) (h : Happening) → passesBy (judged m w (readingOf h)) h ≡ stepOf m w h .passed
-  unfolding passesBy stepOf watched operated quiet
-  passes-as m (happening.Response at f) = sym (step-passed m w at f)
-  passes-as m (happening.Request at q) = refl
-  passes-as m (happening.Clock at) = refl
-  passes-as m (happening.Operator at «setSD_C» «ChFAck_C») = refl
-
+  -- ---- what is old, as the FS-Master's outcome says it
   old-as : (m : Master) (h : Happening) → oldBy (judged m w (readingOf h)) h ≡ stepOf m w h .old
   unfolding oldBy stepOf watched operated quiet
   old-as m (happening.Response at f) = sym (step-old m w at f)
@@ -131,4 +124,4 @@ module _ (at w : ℕ) where
   unfolding isSample judgedIn
   sample-is past h =
       let m = masterAfter at w past in
-      rw (kept-no (m .MCount) (judgedIn at w past h .MCount) (answered at w past) (not-answered past), passes-as m h, old-as m h) (shuffled (stepOf m w h .passed) (stepOf m w h .old) (leb (timeOf at w past h) w))
+      rw (kept-no (m .MCount) (judgedIn at w past h .MCount) (answered at w past) (not-answered past), passes-as m w h, old-as m h) (shuffled (stepOf m w h .passed) (stepOf m w h .old) (leb (timeOf at w past h) w))

@@ -26,11 +26,9 @@ use Rattle.scl.specs.Happenings.{readingOf}
 use Rattle.scl.specs.declared.Happening.{Happening}
 use Rattle.scl.specs.declared.Happening.the-variants as happening
 use Rattle.fs_master.specs.declared.Master.{Master}
-use Rattle.fs_master.specs.declared.Row.{Row}
-use Rattle.fs_master.specs.declared.Row.the-variants.{Stay, T4, T7, T8, T11, T12, T13, T14}
 use Rattle.fs_master.specs.Table38 as table38
 use Rattle.fs_master.specs.Calls as masters
-use Rattle.fs_master.specs.History as masterSpecs
+use Rattle.fs_master.specs.History.{Held, masterAfter, judgedIn, passesBy}
 use Rattle.fs_device.specs.declared.Device.{Device}
 use Rattle.fs_device.specs.Table40 as table40
 use Rattle.fs_device.specs.Calls as devices
@@ -162,28 +160,13 @@ sinceBlock q [] = never
 sinceBlock q (c ∷ past) =
     cond (eqb (portOf c) q && isTaken (answerOf (history past) c)) (extended (sinceBlock q past) c) (sinceBlock q past)
 
--- ---- Both ends, after what happened since a block at this reading with this W
-
-unfoldable pub masterAfter : ℕ → ℕ → List Happening → Master
-masterAfter at w [] = table38.firstMaster at
-masterAfter at w (h ∷ past) = masters.stepOf (masterAfter at w past) w h .master
+-- ---- The FS-Device, after what happened since a block at this reading with this W
 
 unfoldable pub deviceAfter : ℕ → ℕ → List Happening → Device
 deviceAfter at w [] = table40.firstDevice at
 deviceAfter at w (h ∷ past) = devices.stepOf (deviceAfter at w past) w h .device
 
--- the FS-Master in the call of h, once its watchdog has been judged: a response is judged after that row, against the count it left (R17)
-unfoldable pub judgedIn : ℕ → ℕ → List Happening → Happening → Master
-judgedIn at w past h = masters.judged (masterAfter at w past) w (readingOf h)
-
 -- ---- Samples: "A sample is the first response that passes for each count sent, with elapsed t at most W, in any state."
-
--- "a response passes if signature, port number and mirrored count agree with what was sent", where it is taken to a check (R14a)
-unfoldable pub passesBy : Master → Happening → Bool
-passesBy m (happening.Response at f) = table38.isTaken m f && masterSpecs.sound m f
-passesBy m (happening.Request at q) = false
-passesBy m (happening.Clock at) = false
-passesBy m (happening.Operator at «setSD_C» «ChFAck_C») = false
 
 -- "A repeated response isn't a second sample" (R14a)
 unfoldable pub oldBy : Master → Happening → Bool
@@ -268,46 +251,12 @@ unfoldable pub Stands : Port → Since → Type 0
 Stands p never = p ≡ newPort
 Stands p (since at params past) = StandsSince p at params past
 
--- ---- Release at the FS-Master
-
--- where the acknowledgement of a fault stands: none is open; a fault (T7, T8, T12, T14); and a T13 after it
-pub data Fault : Type 0 where
-  None : Fault
-  Open : Fault
-  Asked : Fault
-
-unfoldable pub faultAfter : Row → Fault → Fault
-faultAfter Stay s = s
-faultAfter T4 s = s
-faultAfter T7 s = Open
-faultAfter T8 s = Open
-faultAfter T11 None = None
-faultAfter T11 Open = Open
-faultAfter T11 Asked = None
-faultAfter T12 s = Open
-faultAfter T13 None = None
-faultAfter T13 Open = Asked
-faultAfter T13 Asked = Asked
-faultAfter T14 s = Open
-
--- after the rows of all calls since the block, the watchdog's before the arrival's
-unfoldable pub fault : ℕ → ℕ → List Happening → Fault
-fault at w [] = None
-fault at w (h ∷ past) =
-    let o = masters.stepOf (masterAfter at w past) w h in
-    faultAfter (o .arrival) (faultAfter (o .watchdog) (fault at w past))
-
--- a response has passed since the block
-unfoldable pub hasPassed : ℕ → ℕ → List Happening → Bool
-hasPassed at w [] = false
-hasPassed at w (h ∷ past) = passesBy (judgedIn at w past h) h || hasPassed at w past
-
 -- ---- Values that never arise (a ProtMode of 7, a count of 9, a bin that wraps): what holds of a port that runs, of number q
 
 pub record Arising (q : ℕ) (p : Port) : Type 0 where
   pub parameters : Accepted q (p .params)
   -- R17b
-  pub master : masterSpecs.Held (p .master)
+  pub master : Held (p .master)
   pub count : p .master .MCount ≤ 7
   pub carried : p .master .carried ≤ 7
   pub awaited : p .master .awaited ≤ 7

@@ -7,6 +7,7 @@ use Rattle.scl.specs.Happenings.{isFailure}
 use Rattle.scl.proofs.Cases.{cond-case, no}
 use mathlib.Core.Path.{_≡_, refl, sym, ap, _∙_}
 use mathlib.Core.Bool.{Bool, true, false, cond, not, _&&_, _||_}
+use mathlib.Core.List.{List, [], _∷_}
 use lib.Dec.{eqb}
 use Rattle.scl.specs.declared.Happening.{Happening}
 use Rattle.scl.specs.declared.Happening.the-variants as happening
@@ -18,7 +19,7 @@ use Rattle.fs_master.specs.declared.Row.the-variants.{Stay, T4, T7, T8, 
 use Rattle.fs_master.specs.Calls.{judged, quiet, arrived, received, watched, operated, stepOf}
 use Rattle.fs_master.proofs.Rows.{timeout-case, row-case}
 use Rattle.fs_master.specs.Table38.{watchdogRow, isOld, isTaken, hasFaults, checked, arrivalRow, taken, t4, t7, t8, t11, t12, t13, t14, acted, signalled, firstMaster}
-use Rattle.fs_master.specs.History.{countBy, waits, Held}
+use Rattle.fs_master.specs.History.{countBy, waits, Held, masterAfter}
 
 acted-count : (m : Master) (r : Row) (at : ℕ) (SDset : Bool) → acted m r at SDset .MCount ≡ countBy r (m .MCount)
 unfolding acted countBy t4 t7 t8 t11 t12 t13 t14
@@ -108,22 +109,22 @@ another-count m w at f p e =
 
 -- R17b's invariants
 
-judged-held : (m : Master) (w at : ℕ) → Held m → Held (judged m w at)
+pub judged-held : (m : Master) (w at : ℕ) → Held m → Held (judged m w at)
 unfolding judged acted t8 t14
 judged-held m w at h =
     timeout-case (λ (r : Row). Held (acted m r at false)) m w at h
-    (λ _. record { rests = refl; shown = refl; same = h .same; no-request = λ e. no e; no-edge = λ e. no e })
-    (λ _. record { rests = refl; shown = refl; same = refl; no-request = λ e. no e; no-edge = λ e. no e })
+    (λ _. record { rests = refl; shown = refl; same = h .same; no-request = λ e. no e; no-edge = λ e. no e; safe = λ _. refl })
+    (λ _. record { rests = refl; shown = refl; same = refl; no-request = λ e. no e; no-edge = λ e. no e; safe = λ _. refl })
 
 row-held : (m : Master) (f : Response) (at : ℕ) (faults : Bool) → Held m → Held (acted (taken m f) (arrivalRow m faults) at (f .SDset))
 unfolding acted taken t4 t7 t11 t12 t13
 row-held m f at faults h =
     row-case (λ (r : Row). Held (acted (taken m f) r at (f .SDset))) m faults
-    (λ s _. record { rests = refl; shown = refl; same = h .same; no-request = λ _. h .no-request s; no-edge = λ _. h .no-edge s })
-    (λ _ _. record { rests = refl; shown = refl; same = h .same; no-request = λ e. no e; no-edge = λ e. no e })
-    (λ _ _ _. record { rests = refl; shown = refl; same = refl; no-request = λ _. refl; no-edge = λ _. refl })
-    (λ _ _. record { rests = refl; shown = refl; same = refl; no-request = λ e. no e; no-edge = λ e. no e })
-    (λ _ _ _. record { rests = refl; shown = refl; same = refl; no-request = λ e. no e; no-edge = λ e. no e })
+    (λ s _. record { rests = refl; shown = refl; same = h .same; no-request = λ _. h .no-request s; no-edge = λ _. h .no-edge s; safe = λ e. no (cc) })
+    (λ _ _. record { rests = refl; shown = refl; same = h .same; no-request = λ e. no e; no-edge = λ e. no e; safe = λ _. refl })
+    (λ _ _ _. record { rests = refl; shown = refl; same = refl; no-request = λ _. refl; no-edge = λ _. refl; safe = λ e. no (cc) })
+    (λ _ _. record { rests = refl; shown = refl; same = refl; no-request = λ e. no e; no-edge = λ e. no e; safe = λ _. refl })
+    (λ _ _ _. record { rests = refl; shown = refl; same = refl; no-request = λ e. no e; no-edge = λ e. no e; safe = λ _. refl })
 
 received-held : (m : Master) (r : Row) (at : ℕ) (f : Response) → Held m → Held (received m r at f .master)
 unfolding received arrived quiet
@@ -132,10 +133,10 @@ received-held m r at f h =
 
 signalled-held : (m : Master) («setSD_C» «ChFAck_C» : Bool) → Held m → Held (signalled m «setSD_C» «ChFAck_C»)
 unfolding signalled
-signalled-held m «setSD_C» «ChFAck_C» h = record { rests = h .rests; shown = h .shown; same = h .same; no-request = h .no-request; no-edge = h .no-edge }
+signalled-held m «setSD_C» «ChFAck_C» h = record { rests = h .rests; shown = h .shown; same = h .same; no-request = h .no-request; no-edge = h .no-edge; safe = h .safe }
 
 pub first-held : (at : ℕ) → Held (firstMaster at)
-first-held at = record { rests = refl; shown = refl; same = refl; no-request = λ _. refl; no-edge = λ _. refl }
+first-held at = record { rests = refl; shown = refl; same = refl; no-request = λ _. refl; no-edge = λ _. refl; safe = λ _. refl }
 
 pub held : (m : Master) (w : ℕ) (h : Happening) → Held m → Held (stepOf m w h .master)
 unfolding stepOf watched operated quiet
@@ -143,3 +144,8 @@ held m w (happening.Response at f) i = received-held (judged m w at) (watchdogRo
 held m w (happening.Request at q) i = judged-held m w at i
 held m w (happening.Clock at) i = judged-held m w at i
 held m w (happening.Operator at «setSD_C» «ChFAck_C») i = signalled-held (judged m w at) «setSD_C» «ChFAck_C» (judged-held m w at i)
+
+pub always-held : (at w : ℕ) (past : List Happening) → Held (masterAfter at w past)
+unfolding masterAfter
+always-held at w [] = first-held at
+always-held at w (h ∷ past) = held (masterAfter at w past) w h (always-held at w past)

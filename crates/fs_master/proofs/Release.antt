@@ -1,5 +1,5 @@
 -- When the FS-Master releases. Assumes nothing.
-use Prim.Native.Nat.{ℕ, _+_, _≤_, _<_}
+use Prim.Native.Nat.{ℕ}
 use native.Mathlib.Omega.{arith}
 use mathlib.Core.Path.{_≡_, refl}
 use mathlib.Core.Bool.{Bool, true, false, cond, not, _&&_, _||_}
@@ -7,7 +7,7 @@ use mathlib.Core.List.{List, [], _∷_}
 use mathlib.Core.Logic.{_⊎_, inl, inr, ⊎-elim}
 use lib.Dec.{eqb}
 use borrow.Author.Tests.{not-true}
-use Rattle.scl.specs.Happenings.{checkOf, isFailure, markOf}
+use Rattle.scl.specs.Happenings.{readingOf, checkOf, isFailure, markOf}
 use Rattle.scl.specs.declared.Happening.{Happening}
 use Rattle.scl.specs.declared.Happening.the-variants as happening
 use Rattle.scl.specs.declared.Mark.{Mark}
@@ -21,7 +21,7 @@ use Rattle.fs_master.specs.declared.Row.{Row}
 use Rattle.fs_master.specs.declared.Row.the-variants.{Stay, T4, T7, T8, T11, T12, T13, T14}
 use Rattle.fs_master.specs.Table38.{watchdogRow, isOld, isExpected, isTaken, hasFaults, checked, from8, arrivalRow, taken, t4, t7, t8, t11, t12, t13, t14, acted, signalled, firstMaster}
 use Rattle.fs_master.specs.Calls.{judged, quiet, arrived, received, watched, operated, stepOf}
-use Rattle.fs_master.specs.History.{Releases, releasingRow, FreshBy, run, passes}
+use Rattle.fs_master.specs.History.{Releases, releasingRow, FreshBy, masterAfter, judgedIn, passesBy, hasPassed}
 use Rattle.fs_master.proofs.Rows.{timeout-case, row-case}
 
 goes-on : {A : Type 0} → GoesOn ≡ Fresh → A
@@ -138,37 +138,25 @@ release-begins m w (happening.Request at q) e = inr (judged-released m w at e)
 release-begins m w (happening.Clock at) e = inr (judged-released m w at e)
 release-begins m w (happening.Operator at «setSD_C» «ChFAck_C») e = inr (judged-released m w at e)
 
-passed-there : (m : Master) (r : Row) (at : ℕ) (f : Response) → Releases m f → received m r at f .passed ≡ true
-unfolding received arrived checked
-passed-there m r at f c = simp (c .taken, c .signature, c .port, c .count)
+-- ---- 01: "no release between an accepted block and the first response that passes"
 
-fresh-passed : (m : Master) (w : ℕ) (h : Happening) → FreshBy m w h → stepOf m w h .passed ≡ true
-unfolding stepOf FreshBy
-fresh-passed m w (happening.Response at f) c = passed-there (judged m w at) (watchdogRow m w at) at f (c .0)
-fresh-passed m w (happening.Request at q) c = absurd c
-fresh-passed m w (happening.Clock at) c = absurd c
-fresh-passed m w (happening.Operator at «setSD_C» «ChFAck_C») c = absurd c
+fresh-passes : (m : Master) (w : ℕ) (h : Happening) → FreshBy m w h → passesBy (judged m w (readingOf h)) h ≡ true
+unfolding FreshBy passesBy
+fresh-passes m w (happening.Response at f) c = let r = c .0 in simp (r .taken, r .signature, r .port, r .count)
+fresh-passes m w (happening.Request at q) c = absurd c
+fresh-passes m w (happening.Clock at) c = absurd c
+fresh-passes m w (happening.Operator at «setSD_C» «ChFAck_C») c = absurd c
 
-one-pass : (passed : Bool) (n : ℕ) → passed ≡ true → 0 < cond passed 1 0 + n
-one-pass true n e = omega arith
-one-pass false n e = no (cc)
+or-second : (a b : Bool) → b ≡ true → (a || b) ≡ true
+or-second true b e = refl
+or-second false b e = e
 
-more : (passed : Bool) (n : ℕ) → 0 < n → 0 < cond passed 1 0 + n
-more true n e = omega arith
-more false n e = omega arith
-
-passes-on : (m : Master) (w : ℕ) (h : Happening) (n : ℕ) (released : Bool) → stepOf m w h .master .released ≡ released → m .released ≡ false → (stepOf m w h .master .released ≡ false → 0 < n) → 0 < cond (stepOf m w h .passed) 1 0 + n
-passes-on m w h n true r s rest =
-    ⊎-elim (λ x. one-pass (stepOf m w h .passed) n (fresh-passed m w h (fresh-only m w h x))) (λ z. no (cc)) (release-begins m w h r)
-passes-on m w h n false r s rest = more (stepOf m w h .passed) n (rest r)
-
--- An FS-Master that does not release goes on to release only after a response that passes;
-pub response-first : (m : Master) (w : ℕ) (hs : List Happening) → m .released ≡ false → run m w hs .released ≡ true → 0 < passes m w hs
-unfolding run passes
-response-first m w [] s e = no (cc)
-response-first m w (h ∷ hs) s e =
-    passes-on m w h (passes (stepOf m w h .master) w hs) (stepOf m w h .master .released) refl s (λ r. response-first (stepOf m w h .master) w hs r e)
-
--- so nothing is released between an accepted block and the first response that passes.
-pub after-block : (at w : ℕ) (hs : List Happening) → run (firstMaster at) w hs .released ≡ true → 0 < passes (firstMaster at) w hs
-after-block at w hs e = response-first (firstMaster at) w hs refl e
+module _ (at w : ℕ) where
+  pub passed-first : (past : List Happening) → masterAfter at w past .released ≡ true → hasPassed at w past ≡ true
+  unfolding masterAfter hasPassed judgedIn
+  passed-first [] e = no (cc)
+  passed-first (h ∷ past) e =
+      let m = masterAfter at w past in
+      ⊎-elim (λ f. simp (fresh-passes m w h (fresh-only m w h f)))
+      (λ r. or-second (passesBy (judged m w (readingOf h)) h) (hasPassed at w past) (passed-first past r))
+      (release-begins m w h e)

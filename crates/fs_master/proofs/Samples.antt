@@ -16,7 +16,7 @@ use Rattle.fs_master.specs.declared.Row.{Row}
 use Rattle.fs_master.specs.declared.Row.the-variants.{Stay, T4, T7, T8, T11, T12, T13, T14}
 use Rattle.fs_master.specs.Table38.{watchdogRow, isOld, isTaken, hasFaults, checked, isExpected, arrivalRow, taken, sampleFrom, t4, t7, t8, t11, t12, t13, t14, acted, signalled, rowNumberOf}
 use Rattle.fs_master.specs.Calls.{judged, quiet, arrived, received, watched, operated, stepOf}
-use Rattle.fs_master.specs.History.{sound}
+use Rattle.fs_master.specs.History.{sound, passesBy}
 use Rattle.fs_master.proofs.Rows.{timeout-case, row-case}
 
 -- ---- the start
@@ -93,6 +93,13 @@ received-passed m r at f = go (isTaken m f)
 pub step-passed : (m : Master) (w at : ℕ) (f : Response) → stepOf m w (happening.Response at f) .passed ≡ (isTaken (judged m w at) f && sound (judged m w at) f)
 unfolding stepOf
 step-passed m w at f = received-passed (judged m w at) (watchdogRow m w at) at f
+
+pub passes-as : (m : Master) (w : ℕ) (h : Happening) → passesBy (judged m w (readingOf h)) h ≡ stepOf m w h .passed
+unfolding passesBy stepOf watched operated quiet
+passes-as m w (happening.Response at f) = sym (step-passed m w at f)
+passes-as m w (happening.Request at q) = refl
+passes-as m w (happening.Clock at) = refl
+passes-as m w (happening.Operator at «setSD_C» «ChFAck_C») = refl
 
 received-old : (m : Master) (r : Row) (at : ℕ) (f : Response) → received m r at f .old ≡ isOld m f
 unfolding received arrived quiet

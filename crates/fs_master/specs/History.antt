@@ -1,10 +1,11 @@
 -- What the rows come to, over the definitions of this folder: the words in which the theorems of proofs/ are stated. Assumes nothing.
-use Prim.Native.Nat.{ℕ, _+_}
+use Prim.Native.Nat.{ℕ}
 use mathlib.Core.Path.{_≡_}
 use mathlib.Core.Bool.{Bool, true, false, cond, not, _&&_, _||_}
 use mathlib.Core.List.{List, [], _∷_}
 use lib.Dec.{eqb}
 use Rattle.scl.specs.Counts.{countAfter}
+use Rattle.scl.specs.Happenings.{readingOf}
 use Rattle.scl.specs.Moved.{moved}
 use Rattle.scl.specs.declared.Happening.{Happening}
 use Rattle.scl.specs.declared.Happening.the-variants as happening
@@ -13,7 +14,7 @@ use Rattle.fs_master.specs.declared.Master.{Master}
 use Rattle.fs_master.specs.declared.Outcome.{Outcome}
 use Rattle.fs_master.specs.declared.Row.{Row}
 use Rattle.fs_master.specs.declared.Row.the-variants.{Stay, T4, T7, T8, T11, T12, T13, T14}
-use Rattle.fs_master.specs.Table38.{isExpected, isTaken}
+use Rattle.fs_master.specs.Table38.{firstMaster, isExpected, isTaken}
 use Rattle.fs_master.specs.Calls.{judged, stepOf}
 
 -- the response that is released, at a master whose watchdog has been judged: by T4, or in state 7 by T11, acknowledged after an edge
@@ -39,37 +40,82 @@ FreshBy m w (happening.Request at request) = ⊥
 FreshBy m w (happening.Clock at) = ⊥
 FreshBy m w (happening.Operator at «setSD_C» «ChFAck_C») = ⊥
 
--- after a list of happenings
-unfoldable pub run : Master → ℕ → List Happening → Master
-run m w [] = m
-run m w (h ∷ hs) = run (stepOf m w h .master) w hs
+-- ---- Since an accepted block with this reading, with this W. In every list the latest happening stands first.
 
--- how many of their responses passed
-unfoldable pub passes : Master → ℕ → List Happening → ℕ
-passes m w [] = 0
-passes m w (h ∷ hs) = cond (stepOf m w h .passed) 1 0 + passes (stepOf m w h .master) w hs
+unfoldable pub masterAfter : ℕ → ℕ → List Happening → Master
+masterAfter at w [] = firstMaster at
+masterAfter at w (h ∷ past) = stepOf (masterAfter at w past) w h .master
 
--- in state 7, nothing released, no edge of ChFAck_C awaited: as T12 and T14 leave it, and T7 and T8 where no edge was awaited
-pub record Unacknowledged (m : Master) : Type 0 where
-  pub in7 : eqb (m .state) 7 ≡ true
-  pub edge : m .«ChFAck_C_e» ≡ false
-  pub safe : m .released ≡ false
+-- the FS-Master in the call of h, once its watchdog has been judged: a response is judged after that row, against the count it left (R17)
+unfoldable pub judgedIn : ℕ → ℕ → List Happening → Happening → Master
+judgedIn at w past h = judged (masterAfter at w past) w (readingOf h)
 
--- in state 7, nothing released, an edge of ChFAck_C awaited
-pub record Armed (m : Master) : Type 0 where
-  pub in7 : eqb (m .state) 7 ≡ true
-  pub edge : m .«ChFAck_C_e» ≡ true
-  pub safe : m .released ≡ false
+-- the three checks hold
+abbrev pub sound : Master → Response → Bool
+sound m f = f .«signature_holds» && f .«port_holds» && isExpected m f
 
--- among the happenings, one with T11 and ChFAck_C 1
-pub data Answered (w : ℕ) : Master → List Happening → Type 0 where
-  answered-here : {m : Master} {h : Happening} {hs : List Happening} → stepOf m w h .arrival ≡ T11 → m .«ChFAck_C» ≡ true → Answered w m (h ∷ hs)
-  answered-later : {m : Master} {h : Happening} {hs : List Happening} → Answered w (stepOf m w h .master) hs → Answered w m (h ∷ hs)
+-- 01: "a response passes if signature, port number and mirrored count agree with what was sent", where it is taken to a check (R14a)
+unfoldable pub passesBy : Master → Happening → Bool
+passesBy m (happening.Response at f) = isTaken m f && sound m f
+passesBy m (happening.Request at q) = false
+passesBy m (happening.Clock at) = false
+passesBy m (happening.Operator at «setSD_C» «ChFAck_C») = false
 
--- among the happenings, one with T13 and ChFAck_C 0, and after it one with T11 and ChFAck_C 1
-pub data Acknowledged (w : ℕ) : Master → List Happening → Type 0 where
-  asked-here : {m : Master} {h : Happening} {hs : List Happening} → stepOf m w h .arrival ≡ T13 → m .«ChFAck_C» ≡ false → Answered w (stepOf m w h .master) hs → Acknowledged w m (h ∷ hs)
-  asked-later : {m : Master} {h : Happening} {hs : List Happening} → Acknowledged w (stepOf m w h .master) hs → Acknowledged w m (h ∷ hs)
+-- a response has passed since the block
+unfoldable pub hasPassed : ℕ → ℕ → List Happening → Bool
+hasPassed at w [] = false
+hasPassed at w (h ∷ past) = passesBy (judgedIn at w past h) h || hasPassed at w past
+
+-- 01: "Operator signals hold until the next operator happening, and are both off after an accepted block."
+pub record Signals : Type 0 where
+  pub «setSD_C» : Bool
+  pub «ChFAck_C» : Bool
+
+unfoldable pub signalsAfter : Happening → Signals → Signals
+signalsAfter (happening.Response at f) s = s
+signalsAfter (happening.Request at q) s = s
+signalsAfter (happening.Clock at) s = s
+signalsAfter (happening.Operator at «setSD_C» «ChFAck_C») s = record { «setSD_C» = «setSD_C»; «ChFAck_C» = «ChFAck_C» }
+
+unfoldable pub signals : List Happening → Signals
+signals [] = record { «setSD_C» = false; «ChFAck_C» = false }
+signals (h ∷ past) = signalsAfter h (signals past)
+
+-- an FS-Master that holds them
+abbrev pub HoldsSignals : Signals → Master → Type 0
+HoldsSignals s m = (m .«setSD_C» ≡ s .«setSD_C») × (m .«ChFAck_C» ≡ s .«ChFAck_C»)
+
+-- 01: "after a fault, and with no new accepted block, values return only once ChFAck_C followed ChFAckReq_S". Where that stands: no fault is
+-- open; one is; ChFAckReq_S was set while ChFAck_C was 0, so that ChFAck_C 1 follows it.
+pub data Fault : Type 0 where
+  None : Fault
+  Open : Fault
+  Asked : Fault
+
+-- after a row, with the ChFAck_C that stands: T7, T8, T12 and T14 are faults, T13 sets ChFAckReq_S, T11 ends a fault
+unfoldable pub faultAfter : Row → Bool → Fault → Fault
+faultAfter Stay «ChFAck_C» s = s
+faultAfter T4 «ChFAck_C» s = s
+faultAfter T7 «ChFAck_C» s = Open
+faultAfter T8 «ChFAck_C» s = Open
+faultAfter T11 «ChFAck_C» None = None
+faultAfter T11 «ChFAck_C» Open = Open
+faultAfter T11 «ChFAck_C» Asked = cond «ChFAck_C» None Asked
+faultAfter T12 «ChFAck_C» s = Open
+faultAfter T13 «ChFAck_C» None = None
+faultAfter T13 «ChFAck_C» Open = cond «ChFAck_C» Open Asked
+faultAfter T13 «ChFAck_C» Asked = Asked
+faultAfter T14 «ChFAck_C» s = Open
+
+-- after the rows of all calls since the block, the watchdog's before the arrival's
+unfoldable pub fault : ℕ → ℕ → List Happening → Fault
+fault at w [] = None
+fault at w (h ∷ past) =
+    let o = stepOf (masterAfter at w past) w h in
+    let acknowledges = signals past .«ChFAck_C» in
+    faultAfter (o .arrival) acknowledges (faultAfter (o .watchdog) acknowledges (fault at w past))
+
+-- ---- What holds of one call
 
 -- what a row of 000 Table 38 makes of MCount
 unfoldable pub countBy : Row → ℕ → ℕ
@@ -86,17 +132,14 @@ countBy T14 count = 0
 abbrev pub waits : Master → Bool
 waits m = eqb (m .state) 2 || eqb (m .state) 5 || eqb (m .state) 7
 
--- R17b's invariants, and the edge's: released exactly when SDset_S = 0; ChFAckReq = ChFAckReq_S, and no request and no edge but in 7
+-- R17b's invariants: released exactly when SDset_S = 0; ChFAckReq = ChFAckReq_S, and no request but in 7. And no edge but in 7, and no release there.
 pub record Held (m : Master) : Type 0 where
   pub rests : waits m ≡ true
   pub shown : m .released ≡ not (m .«SDset_S»)
   pub same : m .ChFAckReq ≡ m .«ChFAckReq_S»
   pub no-request : eqb (m .state) 7 ≡ false → m .ChFAckReq ≡ false
   pub no-edge : eqb (m .state) 7 ≡ false → m .«ChFAck_C_e» ≡ false
-
--- the three checks hold
-abbrev pub sound : Master → Response → Bool
-sound m f = f .«signature_holds» && f .«port_holds» && isExpected m f
+  pub safe : eqb (m .state) 7 ≡ true → m .released ≡ false
 
 -- all readings moved by k on the clock
 unfoldable pub movedMaster : ℕ → Master → Master
