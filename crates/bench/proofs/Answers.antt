@@ -1,4 +1,4 @@
--- Each call's answer is the number that 01's table gives, and a refused call changes nothing. Assumes nothing.
+-- Each call's answer is the number that 01's table gives, and a refused call changes nothing and writes no buffer. Assumes nothing.
 use Prim.Native.Nat.{ℕ, _<_}
 use mathlib.Core.Path.{_≡_, refl, sym, ap, _∙_}
 use mathlib.Core.Logic.{_↔_}
@@ -17,7 +17,7 @@ use Rattle.scl.specs.declared.Request.{Request}
 use Rattle.scl.specs.declared.Response.{Response}
 use Rattle.spdu.specs.Signature.{byBits}
 use Rattle.spdu.specs.Fields.{responseBy, requestBy}
-use Rattle.spdu.specs.Built.{buffersHold}
+use Rattle.spdu.specs.Built.{builtAs, buffersHold}
 use Rattle.spdu.specs.Image as image
 use Rattle.scl.specs.declared.Happening.{Happening}
 use Rattle.scl.proofs.Cases.{cond-case, no}
@@ -25,7 +25,7 @@ use Rattle.bench.specs.declared.Port.{Port}
 use Rattle.bench.specs.declared.Bench.{Bench}
 use Rattle.bench.specs.Ports.{portAt, stepOf, silent}
 use Rattle.bench.specs.Calls.{callRules, responseRules, requestRules, clockRules, operatorRules, settled, parametersAs, placed, responseAt, requestAt, clockAt, operatorAt, parametersAt}
-use Rattle.bench.specs.Images.{composeAnswer, buildAnswer, splitAnswer}
+use Rattle.bench.specs.Images.{composeAnswer, composed, buildAnswer, responseOut, splitAnswer}
 use Rattle.bench.specs.Shown.{trendOf, binsOf, masterOf, deviceOf}
 use Rattle.bench.specs.History.{Call, SetParameters, ReceiveResponse, ReceiveRequest, Clock, Operator, Compose, BuildResponse, Split, Trend, Bins, ShowMaster, ShowDevice, portOf, rulesOf, answerOf, after, history}
 use Rattle.bench.proofs.Taken.{taken-is, on-buffers}
@@ -118,3 +118,23 @@ pub left-out : (later : List Call) (c : Call) (past : List Call) → isTaken (an
 unfolding history
 left-out [] c past e = refused-same (history past) c e
 left-out (d ∷ later) c past e = ap (λ (b : Bench). after b d) (left-out later c past e)
+
+-- ---- and writes no buffer: what stands in it later is what stood there
+
+unwritten : (a : Answer) (hold : Bool) (written octets : List ℕ) → isTaken (cond (isTaken a) (builtAs hold) a) ≡ false → cond (isTaken a) (cond hold written octets) octets ≡ octets
+unwritten a hold written octets = go (isTaken a) hold
+  where
+    go : (t hold : Bool) → isTaken (cond t (builtAs hold) a) ≡ false → cond t (cond hold written octets) octets ≡ octets
+    go true true e = no e
+    go true false e = refl
+    go false hold e = refl
+
+pub compose-refused : (port : ℕ) (p : Port) (process other octets : List ℕ) → isTaken (composeAnswer port p process other octets) ≡ false → composed port p process other octets ≡ octets
+unfolding composeAnswer composed
+compose-refused port p process other octets e =
+    unwritten (answerBy Taken (callRules port p)) (image.composerHolds (p .params) (length process) (length other) (length octets)) _ octets e
+
+pub build-refused : (port : ℕ) (p : Port) (process out : List ℕ) → isTaken (buildAnswer port p process out) ≡ false → responseOut port p process out ≡ out
+unfolding buildAnswer responseOut
+build-refused port p process out e =
+    unwritten (answerBy Taken (callRules port p)) (buffersHold (p .params .«FSP_ProtMode») (p .params .SPDUInLength) (length process) (length out)) _ out e
