@@ -4,5 +4,6 @@ pub mod Counts
 pub mod Samples
 pub mod Signals
 pub mod Acknowledge
+pub mod Arises
 pub mod Faults
 pub mod Moved
