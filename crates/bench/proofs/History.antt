@@ -32,7 +32,7 @@ use Rattle.histogram.proofs.Counting.{cleared-holds, counted-holds}
 use Rattle.histogram.proofs.Samples.{within-more}
 use Rattle.bench.specs.declared.Port.{Port}
 use Rattle.bench.specs.declared.Bench.{Bench}
-use Rattle.bench.specs.Ports.{newPort, acceptedPort, portAt, sentAt, tallied, stepOf}
+use Rattle.bench.specs.Ports.{newPort, acceptedPort, portAt, tallied, stepOf}
 use Rattle.bench.specs.History.{Call, SetParameters, ReceiveResponse, ReceiveRequest, Clock, Operator, Compose, BuildResponse, Split, Trend, Bins, ShowMaster, ShowDevice, portOf, rulesOf, answerOf, after, history, Since, never, since, goesOn, extended, sinceBlock, deviceAfter, timeOf, isSample, samples, StandsSince, Stands}
 use Rattle.bench.proofs.Index.{new-at}
 use Rattle.bench.proofs.Answers.{answer-is, exactly, refused-same}
@@ -45,7 +45,7 @@ use Rattle.bench.proofs.Samples.{time-is, sample-is}
 stepped : Histogram → Happening → Master → ℕ → Histogram
 stepped k h m w =
     let o = masters.stepOf m w h in
-    tallied k w (o .passed && not (o .old)) (elapsedOf (readingOf h) (sentAt m (o .watchdog) (readingOf h)))
+    tallied k w (o .passed && not (o .old)) (elapsedOf (readingOf h) (masters.judged m w (readingOf h) .sample))
 
 module _ (at w : ℕ) (past : List Happening) (h : Happening) (k : Histogram) where
   counts : stepped k h (masterAfter at w past) w ≡ cond (isSample at w past h) (countedOf k w (timeOf at w past h)) k

@@ -14,14 +14,31 @@ use Rattle.scl.proofs.Cases.{cond-case}
 use Rattle.scl.specs.declared.Response.{Response}
 use Rattle.fs_master.specs.declared.Master.{Master}
 use Rattle.fs_master.specs.declared.Row.{Row}
-use Rattle.fs_master.specs.Table38.{firstMaster, watchdogRow, isTaken, isOld, sampleFrom, t8, t14, acted, signalled}
+use Rattle.fs_master.specs.Table38.{firstMaster, watchdogRow, isTaken, isOld, sampleFrom, t8, t14, acted, signalled, rowNumberOf}
 use Rattle.fs_master.specs.Calls.{judged, quiet, watched, operated, stepOf}
 use Rattle.fs_master.specs.History.{sound, masterAfter, judgedIn, passesBy}
 use Rattle.fs_master.proofs.Rows.{timeout-case}
 use Rattle.fs_master.proofs.Counts.{another-count}
-use Rattle.fs_master.proofs.Samples.{judged-start, step-start, step-watchdog, step-passed, passes-as, step-old, Kept, judged-kept, response-kept}
-use Rattle.bench.specs.Ports.{sentAt}
+use Rattle.fs_master.proofs.Samples.{judged-start, step-start, step-passed, passes-as, step-old, Kept, judged-kept, response-kept}
 use Rattle.bench.specs.History.{oldBy, whileSame, sentSince, answered, timeOf, isSample, Previous, previousBy, lastTaken}
+
+-- ---- the start that the code takes, by the watchdog's row
+eqb-flip : (a b : ℕ) → eqb a b ≡ eqb b a
+eqb-flip a b = go (eqb a b) refl
+  where
+    go : (t : Bool) → eqb a b ≡ t → t ≡ eqb b a
+    go true e = sym (eq-eqb b a (sym (eqb-true a b e)))
+    go false e = sym (ne-eqb b a (λ z. eqb-false a b e (sym z)))
+
+abbrev sentBy : Master → Row → ℕ → ℕ
+sentBy m row r = cond (eqb (rowNumberOf row) 0 || eqb (m .MCount) 0) (m .sample) r
+
+pub sent-judged : (m : Master) (w r : ℕ) → sentBy m (watchdogRow m w r) r ≡ judged m w r .sample
+unfolding judged acted sampleFrom t8 t14
+sent-judged m w r =
+    timeout-case (λ (row : Row). sentBy m row r ≡ acted m row r false .sample) m w r refl
+    (λ _. ap (λ (b : Bool). cond b (m .sample) r) (eqb-flip (m .MCount) 0))
+    (λ _. ap (λ (b : Bool). cond b (m .sample) r) (eqb-flip (m .MCount) 0))
 
 module _ (at w : ℕ) where
   -- ---- the stored start is the reading of the last call since the block in which MCount took another value, or the block's
@@ -90,28 +107,12 @@ module _ (at w : ℕ) where
       (λ _. refl)
 
   -- ---- the time of a response
-  eqb-flip : (a b : ℕ) → eqb a b ≡ eqb b a
-  eqb-flip a b = go (eqb a b) refl
-    where
-      go : (t : Bool) → eqb a b ≡ t → t ≡ eqb b a
-      go true e = sym (eq-eqb b a (sym (eqb-true a b e)))
-      go false e = sym (ne-eqb b a (λ z. eqb-false a b e (sym z)))
-
-  sent-judged : (m : Master) (r : ℕ) → sentAt m (watchdogRow m w r) r ≡ judged m w r .sample
-  unfolding sentAt judged acted sampleFrom t8 t14
-  sent-judged m r =
-      timeout-case (λ (row : Row). sentAt m row r ≡ acted m row r false .sample) m w r refl
-      (λ _. ap (λ (b : Bool). cond b (m .sample) r) (eqb-flip (m .MCount) 0))
-      (λ _. ap (λ (b : Bool). cond b (m .sample) r) (eqb-flip (m .MCount) 0))
-
-  pub time-is : (past : List Happening) (h : Happening) → elapsedOf (readingOf h) (sentAt (masterAfter at w past) (stepOf (masterAfter at w past) w h .watchdog) (readingOf h)) ≡ timeOf at w past h
+  pub time-is : (past : List Happening) (h : Happening) → elapsedOf (readingOf h) (judged (masterAfter at w past) w (readingOf h) .sample) ≡ timeOf at w past h
   unfolding timeOf judgedIn
   time-is past h =
       let m = masterAfter at w past in
       ap (elapsedOf (readingOf h))
-      (ap (λ (row : Row). sentAt m row (readingOf h)) (step-watchdog m w h)
-      ∙ sent-judged m (readingOf h)
-      ∙ judged-start m w (readingOf h)
+      (judged-start m w (readingOf h)
       ∙ ap (λ (s : ℕ). whileSame (m .MCount) (judgedIn at w past h .MCount) s (readingOf h)) (start-is past))
 
   -- ---- a sample

@@ -14,8 +14,7 @@ use Rattle.scl.specs.Time.{elapsedOf}
 use Rattle.scl.specs.Happenings.{readingOf}
 use Rattle.scl.specs.declared.Happening.{Happening}
 use Rattle.fs_master.specs.declared.Master.{Master}
-use Rattle.fs_master.specs.declared.Row.{Row}
-use Rattle.fs_master.specs.Table38.{firstMaster, rowNumberOf}
+use Rattle.fs_master.specs.Table38.{firstMaster}
 use Rattle.fs_master.specs.Calls as masters
 use Rattle.fs_device.specs.Table40.{firstDevice}
 use Rattle.fs_device.specs.Calls as devices
@@ -102,13 +101,8 @@ portAt b port = cond (outside 1 8 port) newPort (getD (b .ports) (port - 1) noPo
 unfoldable pub withPort : Bench → ℕ → Port → Bench
 withPort b port p = cond (outside 1 8 port) b (record { ports = set (b .ports) (port - 1) p })
 
--- The reading of the call in which the count that a response answers was first put in an outgoing SPDU: the start that is kept, or this call's
--- reading where the watchdog's row, T8 or T14, made MCount 0 and it was not (R17).
-unfoldable pub sentAt : Master → Row → ℕ → ℕ
-sentAt m watchdog at = cond (eqb (rowNumberOf watchdog) 0 || eqb (m .MCount) 0) (m .sample) at
-
 -- A happening at the FS-Master. `passes_anew`: a response has come that passes and is not old (R14a), t ms after the count that it answers was
--- first sent.
+-- first sent, which is the sample's start once the watchdog has been judged (R17).
 abbrev pub movedOf : Master → ℕ → Happening → Moved
 movedOf m w h =
     let o = masters.stepOf m w h in
@@ -116,7 +110,7 @@ movedOf m w h =
       master = o .master;
       mark = o .mark;
       «passes_anew» = o .passed && not (o .old);
-      t = elapsedOf (readingOf h) (sentAt m (o .watchdog) (readingOf h));
+      t = elapsedOf (readingOf h) (masters.judged m w (readingOf h) .sample);
     }
 
 -- "A sample is the first response that passes for each count sent, with elapsed t at most W"

@@ -1,8 +1,10 @@
 // One port: what a call does to it, with its answer.
 ghost use mathlib.Core.Path.{_≡_};
+ghost use mathlib.Core.Bool.{cond, _||_};
 ghost use lib.Dec.{eqb};
 ghost use Rattle.answer.specs.declared.Answer.the-variants as answers;
 ghost use Rattle.answer.specs.Rules.{answerBy};
+ghost use Rattle.fs_master.specs.Table38.{rowNumberOf};
 ghost use Rattle.bench.specs.Ports as ports;
 ghost use Rattle.bench.specs.Calls as calls;
 use crate::Bench;
@@ -55,8 +57,9 @@ fn accepted(p: Port, params: Params, at: u32) -> Port
     n
 }
 
+// The sample's start once the watchdog has been judged, by its row: what is kept, or this reading where T8 or T14 made MCount 0 and it was not.
 fn sent_at(m: Master, watchdog: Row, at: u32) -> u32
-    ensures { λ r. ⌜ r ≡ ports.sentAt m watchdog at ⌝ }
+    ensures { λ r. ⌜ r ≡ cond (eqb (rowNumberOf watchdog) 0 || eqb (m .MCount) 0) (m .sample) at ⌝ }
 {
     let none = fs_master::row_number(watchdog) == 0;
     if none | (m.MCount == 0) { m.sample } else { at }

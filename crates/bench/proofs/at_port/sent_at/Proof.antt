@@ -1,15 +1,12 @@
 use borrow.Author.Tests.{lt-ltb, le-ltb, le-leb, lt-leb, eq-eqb, ne-eqb}
-use Rattle.bench.specs.Ports.{sentAt}
 use borrow.Author.Needs.{needs}
 use Rattle.bench.proofs.at_port.sent_at.Statement.{statement}
 use Rattle.bench.proofs.at_port.sent_at.Tie as tie
 
 returns : tie.Need-returns
-unfolding sentAt
 returns c = simp (simp (c .before .before .row-number .ensures) at (c .if1 .taken), c .before .before .row-number .ensures)
 
 returns-2 : tie.Need-returns-2
-unfolding sentAt
 returns-2 c = simp (simp (c .before .before .row-number .ensures) at (c .if1 .left), c .before .before .row-number .ensures)
 
 pub sent-at-spec : {M : Type 1} → statement M
