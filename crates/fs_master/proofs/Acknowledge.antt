@@ -1,5 +1,6 @@
 -- After a fault the FS-Master releases only once ChFAck_C followed ChFAckReq_S. Assumes nothing.
 use Prim.Native.Nat.{ℕ}
+use native.Mathlib.Omega.{arith}
 use mathlib.Core.Path.{_≡_, refl, sym, ap, ap₂, _∙_}
 use mathlib.Core.Bool.{Bool, true, false, cond, not, _&&_, _||_}
 use mathlib.Core.List.{List, [], _∷_}
@@ -24,6 +25,14 @@ use Rattle.fs_master.proofs.Signals.{judged-signals, signals-hold}
 -- where the acknowledgement stands, by the FS-Master's variables: a fault is open in state 7 alone, and was asked for where an edge is awaited
 abbrev standing : Master → Fault
 standing m = cond (eqb (m .state) 7) (cond (m .«ChFAck_C_e») Asked Open) None
+
+awaited : (m : Master) → standing m ≡ Asked → m .«ChFAck_C_e» ≡ true
+awaited m = go (eqb (m .state) 7) (m .«ChFAck_C_e»)
+  where
+    go : (in7 edge : Bool) → cond in7 (cond edge Asked Open) None ≡ Asked → edge ≡ true
+    go true true e = refl
+    go true false e = let z : _≡_ {A = ℕ} 0 1 = cc in absurd (omega arith)
+    go false edge e = let z : _≡_ {A = ℕ} 0 1 = cc in absurd (omega arith)
 
 asked : (acknowledges edge : Bool) → (acknowledges && edge) ≡ false → faultAfter T13 acknowledges (cond edge Asked Open) ≡ cond (not acknowledges || edge) Asked Open
 unfolding faultAfter
@@ -71,6 +80,10 @@ module _ (at w : ℕ) where
   stands [] = refl
   stands (h ∷ past) =
       step-fault (masterAfter at w past) w h (signals past) (fault at w past) (signals-hold at w past) (always-held at w past) (stands past)
+
+  -- Where it was asked for, ChFAckReq_S is 1.
+  pub requested : (past : List Happening) → fault at w past ≡ Asked → masterAfter at w past .«ChFAckReq_S» ≡ true
+  requested past e = always-held at w past .requested (awaited (masterAfter at w past) (sym (stands past) ∙ e))
 
   -- While values are released no fault is open: since the last T7, T8, T12 or T14 a T13 came while ChFAck_C was 0, and later a T11 while it was 1.
   pub acknowledged : (past : List Happening) → masterAfter at w past .released ≡ true → fault at w past ≡ None

@@ -113,18 +113,18 @@ pub judged-held : (m : Master) (w at : ℕ) → Held m → Held (judged m w at)
 unfolding judged acted t8 t14
 judged-held m w at h =
     timeout-case (λ (r : Row). Held (acted m r at false)) m w at h
-    (λ _. record { rests = refl; shown = refl; same = h .same; no-request = λ e. no e; no-edge = λ e. no e; safe = λ _. refl })
-    (λ _. record { rests = refl; shown = refl; same = refl; no-request = λ e. no e; no-edge = λ e. no e; safe = λ _. refl })
+    (λ _. record { rests = refl; shown = refl; same = h .same; no-request = λ e. no e; no-edge = λ e. no e; safe = λ _. refl; requested = h .requested })
+    (λ _. record { rests = refl; shown = refl; same = refl; no-request = λ e. no e; no-edge = λ e. no e; safe = λ _. refl; requested = λ e. no (sym e) })
 
 row-held : (m : Master) (f : Response) (at : ℕ) (faults : Bool) → Held m → Held (acted (taken m f) (arrivalRow m faults) at (f .SDset))
 unfolding acted taken t4 t7 t11 t12 t13
 row-held m f at faults h =
     row-case (λ (r : Row). Held (acted (taken m f) r at (f .SDset))) m faults
-    (λ s _. record { rests = refl; shown = refl; same = h .same; no-request = λ _. h .no-request s; no-edge = λ _. h .no-edge s; safe = λ e. no (cc) })
-    (λ _ _. record { rests = refl; shown = refl; same = h .same; no-request = λ e. no e; no-edge = λ e. no e; safe = λ _. refl })
-    (λ _ _ _. record { rests = refl; shown = refl; same = refl; no-request = λ _. refl; no-edge = λ _. refl; safe = λ e. no (cc) })
-    (λ _ _. record { rests = refl; shown = refl; same = refl; no-request = λ e. no e; no-edge = λ e. no e; safe = λ _. refl })
-    (λ _ _ _. record { rests = refl; shown = refl; same = refl; no-request = λ e. no e; no-edge = λ e. no e; safe = λ _. refl })
+    (λ s _. record { rests = refl; shown = refl; same = h .same; no-request = λ _. h .no-request s; no-edge = λ _. h .no-edge s; safe = λ e. no (sym e); requested = h .requested })
+    (λ _ _. record { rests = refl; shown = refl; same = h .same; no-request = λ e. no e; no-edge = λ e. no e; safe = λ _. refl; requested = h .requested })
+    (λ _ _ _. record { rests = refl; shown = refl; same = refl; no-request = λ _. refl; no-edge = λ _. refl; safe = λ e. no (sym e); requested = λ e. no (sym e) })
+    (λ _ _. record { rests = refl; shown = refl; same = refl; no-request = λ e. no e; no-edge = λ e. no e; safe = λ _. refl; requested = λ e. no (sym e) })
+    (λ _ _ _. record { rests = refl; shown = refl; same = refl; no-request = λ e. no e; no-edge = λ e. no e; safe = λ _. refl; requested = λ _. refl })
 
 received-held : (m : Master) (r : Row) (at : ℕ) (f : Response) → Held m → Held (received m r at f .master)
 unfolding received arrived quiet
@@ -133,10 +133,10 @@ received-held m r at f h =
 
 signalled-held : (m : Master) («setSD_C» «ChFAck_C» : Bool) → Held m → Held (signalled m «setSD_C» «ChFAck_C»)
 unfolding signalled
-signalled-held m «setSD_C» «ChFAck_C» h = record { rests = h .rests; shown = h .shown; same = h .same; no-request = h .no-request; no-edge = h .no-edge; safe = h .safe }
+signalled-held m «setSD_C» «ChFAck_C» h = record { rests = h .rests; shown = h .shown; same = h .same; no-request = h .no-request; no-edge = h .no-edge; safe = h .safe; requested = h .requested }
 
 pub first-held : (at : ℕ) → Held (firstMaster at)
-first-held at = record { rests = refl; shown = refl; same = refl; no-request = λ _. refl; no-edge = λ _. refl; safe = λ _. refl }
+first-held at = record { rests = refl; shown = refl; same = refl; no-request = λ _. refl; no-edge = λ _. refl; safe = λ _. refl; requested = λ e. no (sym e) }
 
 pub held : (m : Master) (w : ℕ) (h : Happening) → Held m → Held (stepOf m w h .master)
 unfolding stepOf watched operated quiet

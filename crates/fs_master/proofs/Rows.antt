@@ -12,7 +12,7 @@ use Rattle.fs_master.specs.declared.Master.{Master}
 use Rattle.fs_master.specs.declared.Outcome.{Outcome}
 use Rattle.fs_master.specs.declared.Row.{Row}
 use Rattle.fs_master.specs.declared.Row.the-variants.{Stay, T4, T7, T8, T11, T12, T13, T14}
-use Rattle.fs_master.specs.Table38.{timeoutRow, watchdogRow, from8, arrivalRow, acted, t8, t14}
+use Rattle.fs_master.specs.Table38.{timeoutRow, watchdogRow, isAcknowledged, from8, arrivalRow, acted, t8, t14}
 use Rattle.fs_master.specs.Calls.{judged}
 
 stays : (runs expired : Bool) (r : Row) → expired ≡ false → cond (runs && expired) r Stay ≡ Stay
@@ -40,9 +40,9 @@ timeout-case P m w at stay late8 late14 =
     (λ _. stay)
 
 -- the rows of a response that is taken
-pub row-case : (P : Row → Type 0) (m : Master) (faults : Bool) → (eqb (m .state) 7 ≡ false → faults ≡ false → P T4) → (eqb (m .state) 7 ≡ false → faults ≡ true → P T7) → (eqb (m .state) 7 ≡ true → faults ≡ false → (m .«ChFAck_C» && m .«ChFAck_C_e») ≡ true → P T11) → (eqb (m .state) 7 ≡ true → faults ≡ true → P T12) → (eqb (m .state) 7 ≡ true → faults ≡ false → (m .«ChFAck_C» && m .«ChFAck_C_e») ≡ false → P T13) → P (arrivalRow m faults)
+pub row-case : (P : Row → Type 0) (m : Master) (faults : Bool) → (eqb (m .state) 7 ≡ false → faults ≡ false → P T4) → (eqb (m .state) 7 ≡ false → faults ≡ true → P T7) → (eqb (m .state) 7 ≡ true → faults ≡ false → isAcknowledged m ≡ true → P T11) → (eqb (m .state) 7 ≡ true → faults ≡ true → P T12) → (eqb (m .state) 7 ≡ true → faults ≡ false → isAcknowledged m ≡ false → P T13) → P (arrivalRow m faults)
 unfolding arrivalRow from8
 row-case P m faults p4 p7 p11 p12 p13 =
     cond-case P (eqb (m .state) 7)
-    (λ s. cond-case P faults (p12 s) (λ f. cond-case P (m .«ChFAck_C» && m .«ChFAck_C_e») (p11 s f) (p13 s f)))
+    (λ s. cond-case P faults (p12 s) (λ f. cond-case P (isAcknowledged m) (p11 s f) (p13 s f)))
     (λ s. cond-case P faults (p7 s) (p4 s))

@@ -132,7 +132,8 @@ countBy T14 count = 0
 abbrev pub waits : Master → Bool
 waits m = eqb (m .state) 2 || eqb (m .state) 5 || eqb (m .state) 7
 
--- R17b's invariants: released exactly when SDset_S = 0; ChFAckReq = ChFAckReq_S, and no request but in 7. And no edge but in 7, and no release there.
+-- R17b's invariants: released exactly when SDset_S = 0; ChFAckReq = ChFAckReq_S, and no request but in 7. And of 7: no release there, no edge of
+-- ChFAck_C awaited but there, and then ChFAckReq_S is 1.
 pub record Held (m : Master) : Type 0 where
   pub rests : waits m ≡ true
   pub shown : m .released ≡ not (m .«SDset_S»)
@@ -140,6 +141,7 @@ pub record Held (m : Master) : Type 0 where
   pub no-request : eqb (m .state) 7 ≡ false → m .ChFAckReq ≡ false
   pub no-edge : eqb (m .state) 7 ≡ false → m .«ChFAck_C_e» ≡ false
   pub safe : eqb (m .state) 7 ≡ true → m .released ≡ false
+  pub requested : m .«ChFAck_C_e» ≡ true → m .«ChFAckReq_S» ≡ true
 
 -- all readings moved by k on the clock
 unfoldable pub movedMaster : ℕ → Master → Master

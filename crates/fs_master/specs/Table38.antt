@@ -72,9 +72,13 @@ checked m f = checkOf (f .«signature_holds») (f .«port_holds») (isExpected m
 abbrev pub hasFaults : Bool → Response → Bool
 hasFaults MCommErr f = MCommErr || f .DCommErr || f .DTimeout
 
--- state 8: FAULTS T12; else with ChFAck_C = 1 and ChFAck_C_e = 1 T11, else T13 (R16)
+-- ChFAck_C = 1 and ChFAck_C_e = 1
+abbrev pub isAcknowledged : Master → Bool
+isAcknowledged m = m .«ChFAck_C» && m .«ChFAck_C_e»
+
+-- state 8: FAULTS T12; else T11 where it is acknowledged, else T13 (R16)
 unfoldable pub from8 : Master → Bool → Row
-from8 m faults = cond faults T12 (cond (m .«ChFAck_C» && m .«ChFAck_C_e») T11 T13)
+from8 m faults = cond faults T12 (cond (isAcknowledged m) T11 T13)
 
 -- state 3, from 2 and 5: FAULTS T7, else T4. State 8, from 7
 unfoldable pub arrivalRow : Master → Bool → Row
