@@ -12,7 +12,7 @@ use borrow.Author.Tests.{ltb-false}
 use Rattle.bench.specs.declared.Bench.{Bench}
 use Rattle.bench.specs.History.{Call, history, after}
 use Rattle.session.specs.declared.State.{State}
-use Rattle.session.specs.Format.{kindOf, portOf, clockOf, lengthOf, octetsOf, sizeOf, Form, nothing, part, bad, whole, form}
+use Rattle.record.specs.Format.{kindOf, portOf, clockOf, lengthOf, octetsOf, sizeOf, Form, nothing, part, bad, whole, form}
 use Rattle.session.specs.Run.{
   Entry,
   entry,
@@ -33,7 +33,7 @@ use Rattle.session.specs.Run.{
   fedOf,
 }
 use Rattle.session.specs.Blocks.{InBlocks, none, block, together}
-use Rattle.session.proofs.Form.{at-kept, whole-kept, bad-kept, bad-some, tests-of, whole-fits}
+use Rattle.record.proofs.Form.{at-kept, whole-kept, bad-kept, bad-some, tests-of, whole-fits}
 use Rattle.session.proofs.Link.{no-record, no-rest, first-record, first-rest}
 
 -- s begins with the whole records rs, and r stands behind them

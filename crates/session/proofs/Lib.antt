@@ -1,4 +1,3 @@
-pub mod Form
 pub mod Numeral
 pub mod Written
 pub mod Seven

@@ -16,7 +16,7 @@ use Rattle.session.specs.declared.State.{State}
 use Rattle.session.specs.declared.Stop.{Stop}
 use Rattle.session.specs.declared.Act.{Act}
 use Rattle.session.specs.declared.Fed.{Fed}
-use Rattle.session.specs.Format.{portOf, clockOf, lengthOf, sizeOf, Form, nothing, part, bad, whole, form}
+use Rattle.record.specs.Format.{portOf, clockOf, lengthOf, sizeOf, Form, nothing, part, bad, whole, form}
 use Rattle.session.specs.Text.{Written}
 use Rattle.session.specs.Run.{
   Entry,
@@ -41,7 +41,7 @@ use Rattle.session.specs.Run.{
 }
 use Rattle.session.specs.Acts.{actBy, answerIn, placeOf}
 use Rattle.session.specs.Columns.{stateOf}
-use Rattle.session.proofs.Form.{Found}
+use Rattle.record.proofs.Form.{Found}
 use Rattle.session.proofs.Turn.{actPorts, turn-bench, turn-answer}
 use Rattle.session.proofs.Written.{agree}
 

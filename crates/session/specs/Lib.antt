@@ -1,4 +1,3 @@
-pub mod Format
 pub mod Text
 pub mod Run
 pub mod Blocks

@@ -17,7 +17,7 @@ use Rattle.session.specs.declared.State.{State}
 use Rattle.session.specs.declared.Fed.{Fed}
 use Rattle.session.specs.declared.Stop.{Stop}
 use Rattle.session.specs.declared.Stop.the-variants.{Full, Bad, Cut, End}
-use Rattle.session.specs.Format.{kindOf, portOf, clockOf, octetsOf, sizeOf, Form, nothing, part, bad, whole, form}
+use Rattle.record.specs.Format.{kindOf, portOf, clockOf, octetsOf, sizeOf, Form, nothing, part, bad, whole, form}
 use Rattle.session.specs.Text.{refusalLine, summaryLine, portLines}
 
 -- ---- Records

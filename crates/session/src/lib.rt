@@ -4,36 +4,16 @@
 // what it wrote, and at the end of the input, or where a record is bad, prints what `finish` writes.
 mod calling;
 mod columns;
-mod read;
 mod run;
 mod text;
 
 use answer::Answer;
 use bench::Bench;
 use block::Params;
-pub use read::read_record;
 pub use run::feed;
 pub use run::finish;
 pub use run::start;
 use scl::Happening;
-
-// What stands at a position of a session.
-pub enum Record {
-    // A whole record. Its octets stand from start to next, which is past it.
-    Whole {
-        kind: u8,
-        port: u8,
-        clock: u32,
-        start: usize,
-        next: usize,
-    },
-    // A bad mark, kind, length or operator octet.
-    Bad,
-    // The octets end before the record does.
-    Cut,
-    // There are no octets.
-    End,
-}
 
 // How far a session has come: the bench, the whole records and those refused.
 #[repr(C)]

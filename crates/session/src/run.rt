@@ -10,14 +10,12 @@ ghost use Rattle.session.specs.Acts as acts;
 ghost use Rattle.session.specs.Columns as columns;
 use crate::Act;
 use crate::Fed;
-use crate::Record;
 use crate::State;
 use crate::Stop;
 use crate::calling::act_answer;
 use crate::calling::act_of;
 use crate::columns::packed;
 use crate::columns::tally;
-use crate::read::read_record;
 use crate::text::port_lines;
 use crate::text::refusal_line;
 use crate::text::summary_line;
@@ -27,6 +25,8 @@ use block::Params;
 use fs_device::Device;
 use fs_master::Master;
 use histogram::Totals;
+use record::Record;
+use record::read_record;
 
 // No record has been read.
 pub fn start() -> State

@@ -22,10 +22,10 @@ use Rattle.bench.specs.declared.Port.{Port}
 use Rattle.bench.specs.declared.Moved.{Moved}
 use Rattle.bench.specs.Ports.{noPort, tallied}
 use Rattle.spdu.proofs.Tables.{right-method}
-use Rattle.session.specs.Format.{form}
+use Rattle.record.specs.Format.{form}
 use Rattle.session.specs.Run.{isWhole, recordsOf, restOf}
 use Rattle.session.specs.Columns.{joined, portsOf, packed, stateOf}
-use Rattle.session.proofs.Form.{whole-found, bad-found, cut-found, end-found, whole-fits}
+use Rattle.record.proofs.Form.{whole-found, bad-found, cut-found, end-found, whole-fits}
 use Rattle.session.proofs.Beside.{Eight, getD-columns, set-columns}
 use Rattle.session.specs.declared.Fed.{Fed}
 use Rattle.session.specs.declared.Stop.{Stop}

@@ -1,13 +1,13 @@
--- `session::read::read_first` meets its contract. Assumes nothing.
+-- `record::read_first` meets its contract. Assumes nothing.
 use borrow.Author.Tests.{lt-ltb, le-ltb, le-leb, lt-leb, eq-eqb, ne-eqb}
 use native.Mathlib.Omega.{arith}
 use lib.ListN.{length}
 use denote.Ref.{now}
-use Rattle.session.specs.Format.{sizeOf}
-use Rattle.session.proofs.Form.{on, off}
+use Rattle.record.specs.Format.{sizeOf}
+use Rattle.record.proofs.Form.{on, off}
 use borrow.Author.Needs.{needs}
-use Rattle.session.proofs.read.read_first.Statement.{statement}
-use Rattle.session.proofs.read.read_first.Tie as tie
+use Rattle.record.proofs.read_first.Statement.{statement}
+use Rattle.record.proofs.read_first.Tie as tie
 
 returns : tie.Need-returns
 returns c = simp (eq-eqb _ _ (c .if1 .taken))

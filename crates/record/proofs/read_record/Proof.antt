@@ -1,4 +1,4 @@
--- `session::read::read_record` meets its contract. Assumes nothing.
+-- `record::read_record` meets its contract. Assumes nothing.
 use borrow.Author.Tests.{lt-ltb, le-ltb, le-leb, lt-leb, eq-eqb, ne-eqb}
 use native.Mathlib.Omega.{arith}
 use Prim.Native.Nat.{ℕ, _-_}
@@ -7,10 +7,10 @@ use mathlib.Core.List.{List}
 use lib.ListN.{length, drop, drop-of-length-le, length-drop}
 use lib.Seq.{take-all}
 use denote.Ref.{now}
-use Rattle.session.specs.Format.{place, form}
+use Rattle.record.specs.Format.{place, form}
 use borrow.Author.Needs.{needs}
-use Rattle.session.proofs.read.read_record.Statement.{statement}
-use Rattle.session.proofs.read.read_record.Tie as tie
+use Rattle.record.proofs.read_record.Statement.{statement}
+use Rattle.record.proofs.read_record.Tie as tie
 
 returns : tie.Need-returns
 returns c = rw (drop-of-length-le (now (c .before .before .args .s)) (c .if1 .taken))

@@ -4,8 +4,8 @@ use mathlib.Core.Bool.{Bool, true, false, cond, _&&_, not}
 use mathlib.Core.List.{List, [], _∷_}
 use lib.ListN.{length, getD, take, drop}
 use lib.Dec.{ltb, eqb}
-use Rattle.session.specs.declared.Record.{Record}
-use Rattle.session.specs.declared.Record.the-variants.{Whole, Bad, Cut, End}
+use Rattle.record.specs.declared.Record.{Record}
+use Rattle.record.specs.declared.Record.the-variants.{Whole, Bad, Cut, End}
 
 -- "mark 0x53 0x4C, kind (1 octet), port (1), clock (4, most significant first), length (1), that many octets"
 abbrev pub at : List ℕ → ℕ → ℕ

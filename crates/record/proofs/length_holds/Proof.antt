@@ -1,7 +1,7 @@
--- `session::read::length_holds` meets its contract. Assumes nothing.
+-- `record::length_holds` meets its contract. Assumes nothing.
 use borrow.Author.Tests.{lt-ltb, le-ltb, le-leb, lt-leb, eq-eqb, ne-eqb}
-use Rattle.session.proofs.read.length_holds.Statement.{statement}
-use Rattle.session.proofs.read.length_holds.Tie as tie
+use Rattle.record.proofs.length_holds.Statement.{statement}
+use Rattle.record.proofs.length_holds.Tie as tie
 
 returns : tie.Need-returns
 returns c = simp (eq-eqb _ _ (c .if1 .taken))

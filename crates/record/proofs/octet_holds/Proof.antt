@@ -1,12 +1,12 @@
--- `session::read::octet_holds` meets its contract. Assumes nothing.
+-- `record::octet_holds` meets its contract. Assumes nothing.
 use borrow.Author.Tests.{lt-ltb, le-ltb, le-leb, lt-leb, eq-eqb, ne-eqb}
 use mathlib.Core.Path.{sym}
 use native.Mathlib.Omega.{arith}
 use denote.Ref.{now}
-use Rattle.session.proofs.Form.{four, others}
+use Rattle.record.proofs.Form.{four, others}
 use borrow.Author.Needs.{needs}
-use Rattle.session.proofs.read.octet_holds.Statement.{statement}
-use Rattle.session.proofs.read.octet_holds.Tie as tie
+use Rattle.record.proofs.octet_holds.Statement.{statement}
+use Rattle.record.proofs.octet_holds.Tie as tie
 
 shared-slice-read-result : tie.Need-shared-slice-read-result
 shared-slice-read-result c =

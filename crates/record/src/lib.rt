@@ -1,10 +1,27 @@
-// Reading one record.
+// The records of a session (document 01, "The session program"): reading one.
 ghost use mathlib.Core.Path.{_≡_};
 ghost use mathlib.Core.Bool.{true};
 ghost use Prim.Native.Nat.{_+_, _*_, _^_, _≤_, _<_};
 ghost use lib.ListN.{length};
-ghost use Rattle.session.specs.Format as format;
-use crate::Record;
+ghost use Rattle.record.specs.Format as format;
+
+// What stands at a position of a session.
+pub enum Record {
+    // A whole record. Its octets stand from start to next, which is past it.
+    Whole {
+        kind: u8,
+        port: u8,
+        clock: u32,
+        start: usize,
+        next: usize,
+    },
+    // A bad mark, kind, length or operator octet.
+    Bad,
+    // The octets end before the record does.
+    Cut,
+    // There are no octets.
+    End,
+}
 
 // What stands at a position; past the end, nothing.
 pub fn read_record(s: &[u8], at: usize) -> Record

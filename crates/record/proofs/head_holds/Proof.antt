@@ -1,8 +1,8 @@
--- `session::read::head_holds` meets its contract. Assumes nothing.
+-- `record::head_holds` meets its contract. Assumes nothing.
 use borrow.Author.Tests.{lt-ltb, le-ltb, le-leb, lt-leb, eq-eqb, ne-eqb}
 use borrow.Author.Needs.{needs}
-use Rattle.session.proofs.read.head_holds.Statement.{statement}
-use Rattle.session.proofs.read.head_holds.Tie as tie
+use Rattle.record.proofs.head_holds.Statement.{statement}
+use Rattle.record.proofs.head_holds.Tie as tie
 
 returns : tie.Need-returns
 returns c = simp (c .length-holds .ensures)

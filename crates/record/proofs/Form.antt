@@ -9,7 +9,7 @@ use lib.Dec.{eqb, ltb}
 use lib.ListN.{length, drop, length-append, List·getD-append}
 use native.Mathlib.Omega.{arith}
 use Rattle.scl.proofs.Cases.{and-right}
-use Rattle.session.specs.Format.{
+use Rattle.record.specs.Format.{
   at,
   kindOf,
   portOf,
@@ -32,7 +32,7 @@ use Rattle.session.specs.Format.{
   form,
   place,
 }
-use Rattle.session.specs.declared.Record.the-variants.{Whole, Bad, Cut, End}
+use Rattle.record.specs.declared.Record.the-variants.{Whole, Bad, Cut, End}
 
 -- a record of kind 4 whose head holds has the length 1
 pub four : (s : List ℕ) → headHolds s ≡ true → kindOf s ≡ 4 → lengthOf s ≡ 1
