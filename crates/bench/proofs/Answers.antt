@@ -41,7 +41,7 @@ settled-answer p a h = go (isTaken a) refl
     go true e = taken-is a e
     go false e = refl
 
-response-length : (p : Params) (s : List ℕ) → responseBy byBits p s .length ≡ length s
+pub response-length : (p : Params) (s : List ℕ) → responseBy byBits p s .length ≡ length s
 response-length p s = cond-case (λ (r : Response). r .length ≡ length s) (eqb (length s) (p .SPDUInLength)) (λ _. refl) (λ _. refl)
 
 request-length : (p : Params) (s : List ℕ) → requestBy byBits p s .length ≡ length s

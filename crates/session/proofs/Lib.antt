@@ -6,3 +6,4 @@ pub mod Turn
 pub mod Acted
 pub mod Link
 pub mod Blocks
+pub mod Arises

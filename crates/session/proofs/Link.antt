@@ -6,6 +6,7 @@ use mathlib.Core.Bool.{Bool, true, false, cond}
 use mathlib.Core.List.{List, [], _∷_, _++_, append-assoc, append-nil}
 use lib.ListN.{length, getD, take, drop, length-drop, take-append-drop}
 use lib.Seq.{drop-drop, length-take-le}
+use Rattle.io.specs.Counts.{Counts}
 use Rattle.answer.specs.declared.Answer.{Answer}
 use Rattle.spdu.specs.Signature.{byBits}
 use Rattle.bench.specs.declared.Port.{Port}
@@ -14,6 +15,7 @@ use Rattle.bench.specs.Ports.{noPort}
 use Rattle.bench.specs.History.{answerOf, after}
 use Rattle.session.specs.declared.State.{State}
 use Rattle.session.specs.declared.Stop.{Stop}
+use Rattle.session.specs.declared.Stop.the-variants.{Full}
 use Rattle.session.specs.declared.Act.{Act}
 use Rattle.session.specs.declared.Fed.{Fed}
 use Rattle.record.specs.Format.{portOf, clockOf, lengthOf, sizeOf, Form, nothing, part, bad, whole, form}
@@ -129,6 +131,33 @@ module _ {st₀ st₁ : State} {s out₀ : List ℕ} {n : ℕ} {out : List ℕ} 
   pub text-out : out ≡ fedText st₁ s out₀
   unfolding fedText
   text-out = rw (← same, ← room) (out-is l none left a b)
+
+-- what `feed` promises of its answer r and of the buffer after it
+abbrev pub Promised : State → List ℕ → List ℕ → List ℕ → Fed → Type 0
+Promised st s out₀ out r = (r ≡ fedOf st s (length out₀)) × ((out ≡ fedText st s out₀) × ((r .used ≤ length s) × Counts (r .written) out))
+
+abbrev pub fed : State → ℕ → ℕ → Stop → Fed
+fed st used written stop = record { state = st; used = used; written = written; stop = stop }
+
+-- it is met where reading stops
+module _ {st₀ : State} {s out₀ : List ℕ} {n : ℕ} {out : List ℕ} {b : Bench} {records refused n′ at w : ℕ}
+    (l : Link st₀ s out₀ n out (stateOf b records refused) n′ at w) (room : n ≡ length out₀ / lineRoom) (a : at ≤ length s) (c : w ≤ length out)
+    {b′ : Bench} (same : b′ ≡ b) {r : Fed} where
+  stops : (f : Form) → form (drop at s) ≡ f → recordsOf n′ (drop at s) ≡ [] → restOf n′ (drop at s) ≡ drop at s
+      → r ≡ fed (stateOf b′ records refused) at w (stopOf f) → Promised st₀ s out₀ out r
+  stops f e none left h =
+      let r-is = h ∙ ap (λ (b : Bench). fed (stateOf b records refused) at w (stopOf f)) same ∙ fed-is l refl room none left a c (ap stopOf (sym e)) in
+      (r-is, (text-out l refl room none left a c, rw h (a, (c, sym (length-take-le w out c)))))
+
+  -- with no room for a line
+  pub stops-full : form (drop at s) ≡ whole → n′ ≡ 0 → r ≡ fed (stateOf b′ records refused) at w Full → Promised st₀ s out₀ out r
+  stops-full e z h = stops whole e (rw z) (rw z) h
+
+  -- with no whole record
+  pub stops-at : (f : Form) → form (drop at s) ≡ f → isWhole f ≡ false → r ≡ fed (stateOf b′ records refused) at w (stopOf f) → Promised st₀ s out₀ out r
+  stops-at f e off h =
+      let o = ap isWhole e ∙ off in
+      stops f e (no-record n′ (drop at s) o) (no-rest n′ (drop at s) o) h
 
 -- a record read, its act done and its line written
 module _ (b : Bench) (records refused m : ℕ) (e : Entry) (p : Port) (b′ : Bench) (a : Act) (x : Answer)

@@ -57,7 +57,8 @@ module _ (b : Bench) (e : Entry) where
   abbrev p : Port
   p = portAt b (e .port)
 
-  abbrev call : Bool → Bool → Bool → Call
+  -- the call of a record, by three tests of its kind
+  abbrev pub call : Bool → Bool → Bool → Call
   call k₁ k₂ k₃ =
       cond k₁ (SetParameters (e .port) (e .at) (e .octets))
       (cond k₂ (ReceiveResponse (e .port) (e .at) (e .octets) (safeIn (p .params)))

@@ -26,12 +26,14 @@ use Rattle.bench.specs.declared.Bench.{Bench}
 use Rattle.bench.specs.declared.PortAfter.{PortAfter}
 use Rattle.bench.specs.Ports.{newPort, noPort, portAt, withPort, acceptedPort, stepOf, silent}
 use Rattle.bench.specs.Calls as calls
-use Rattle.bench.specs.History.{Call, SetParameters, ReceiveResponse, Clock, Operator, answerOf, after}
+use Rattle.bench.specs.History.{answerOf, after}
+use Rattle.bench.proofs.Taken.{taken-is}
+use Rattle.bench.proofs.Answers.{response-length}
 use Rattle.session.specs.declared.Act.{Act}
 use Rattle.session.specs.declared.Act.the-variants.{Refused, Accepted, Happens}
 use Rattle.session.specs.Run.{Entry, safeIn, safeOut, setSDIn, ackIn, callBy, callOf}
 use Rattle.session.specs.Acts.{rulesOf, blockAct, callAct, happeningBy, actBy, answerIn, placeOf}
-use Rattle.session.proofs.Seven.{lent}
+use Rattle.session.proofs.Seven.{lent, call}
 
 -- ---- At one port
 
@@ -46,26 +48,10 @@ settled-act : (t : Bool) (p : Port) (at : ℕ) (a : Answer) (h : Happening)
 settled-act true p at a h = refl
 settled-act false p at a h = refl
 
-taken-is : (a : Answer) → isTaken a ≡ true → a ≡ answers.Taken
-taken-is answers.Taken e = refl
-taken-is answers.BlockSize e = cc
-taken-is answers.BlockId e = cc
-taken-is answers.PortMode e = cc
-taken-is answers.NoScl e = cc
-taken-is (answers.FieldRange n) e = cc
-taken-is (answers.Signature n) e = cc
-taken-is answers.Buffer e = cc
-taken-is answers.NoPort e = cc
-taken-is answers.NotRunning e = cc
-taken-is answers.SpduLength e = cc
-taken-is answers.NoSamples e = cc
-taken-is answers.PortMismatch e = cc
-taken-is answers.Record e = cc
-
 block-done : (t : Bool) (p : Port) (at : ℕ) (j : Judged) → isTaken (j .answer) ≡ t
     → record { port = cond t (acceptedPort p (j .params) at) p; reply = silent (j .answer) }
     ≡ actDone p at (cond t (Accepted (j .params)) (Refused (j .answer)))
-block-done true p at j e = rw (taken-is (j .answer) e)
+block-done true p at j e = rw (← taken-is (j .answer) e)
 block-done false p at j e = refl
 
 -- no 7: the last rule is kept
@@ -88,13 +74,6 @@ other-answer true true = refl
 other-answer true false = refl
 other-answer false true = refl
 other-answer false false = refl
-
-read-length : (t : Bool) (x y : Response) (n : ℕ) → x .length ≡ n → y .length ≡ n → cond t x y .length ≡ n
-read-length true x y n h h′ = h
-read-length false x y n h h′ = h′
-
-response-length : (q : Params) (s : List ℕ) → responseBy byBits q s .length ≡ length s
-response-length q s = read-length (eqb (length s) (q .SPDUInLength)) _ _ (length s) refl refl
 
 module _ (p : Port) (e : Entry) where
   abbrev q : Params
@@ -162,21 +141,14 @@ module _ (b : Bench) (e : Entry) where
   abbrev port : Port
   port = portAt b (e .port)
 
-  abbrev call : Bool → Bool → Bool → Call
-  call k₁ k₂ k₃ =
-      cond k₁ (SetParameters (e .port) (e .at) (e .octets))
-      (cond k₂ (ReceiveResponse (e .port) (e .at) (e .octets) (safeIn (port .params)))
-      (cond k₃ (Clock (e .port) (e .at) (safeIn (port .params)) (safeOut (port .params)))
-      (Operator (e .port) (e .at) (setSDIn (e .octets)) (ackIn (e .octets)) (safeIn (port .params)))))
-
-  after-by : (k₁ k₂ k₃ : Bool) → after b (call k₁ k₂ k₃) ≡ calls.placed b (e .port) (done port e k₁ k₂ k₃) .bench
+  after-by : (k₁ k₂ k₃ : Bool) → after b (call b e k₁ k₂ k₃) ≡ calls.placed b (e .port) (done port e k₁ k₂ k₃) .bench
   unfolding after
   after-by true k₂ k₃ = refl
   after-by false true k₃ = refl
   after-by false false true = refl
   after-by false false false = refl
 
-  answer-by : (k₁ k₂ k₃ : Bool) → answerOf b (call k₁ k₂ k₃) ≡ done port e k₁ k₂ k₃ .reply .answer
+  answer-by : (k₁ k₂ k₃ : Bool) → answerOf b (call b e k₁ k₂ k₃) ≡ done port e k₁ k₂ k₃ .reply .answer
   unfolding answerOf calls.placed
   answer-by true k₂ k₃ = refl
   answer-by false true k₃ = refl

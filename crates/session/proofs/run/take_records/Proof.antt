@@ -1,15 +1,14 @@
 -- `session::run::take_records` meets its contract. Assumes nothing.
 use borrow.Author.Needs.{needs}
+use borrow.Author.Tests.{not-false}
 use native.Mathlib.Omega.{arith}
 use Prim.Native.Nat.{ℕ, _+_, _-_, _*_, _≤_, _<_}
 use mathlib.Core.Path.{_≡_, refl, sym, ap, _∙_}
 use mathlib.Core.Logic.{⊎-elim}
-use mathlib.Core.Bool.{Bool, true, false, not}
+use mathlib.Core.Bool.{false}
 use mathlib.Core.List.{List, []}
 use lib.ListN.{length, getD, set, drop, length-drop}
-use lib.Seq.{length-take-le}
 use denote.Ref.{now}
-use Rattle.bench.specs.declared.Bench.{Bench}
 use Rattle.fs_master.specs.declared.Master.{Master}
 use Rattle.fs_device.specs.declared.Device.{Device}
 use Rattle.fs_device.specs.declared.Outcome.{Outcome}
@@ -22,28 +21,14 @@ use Rattle.bench.specs.declared.Port.{Port}
 use Rattle.bench.specs.declared.Moved.{Moved}
 use Rattle.bench.specs.Ports.{noPort, tallied}
 use Rattle.spdu.proofs.Tables.{right-method}
-use Rattle.record.specs.Format.{form}
-use Rattle.session.specs.Run.{isWhole, recordsOf, restOf}
-use Rattle.session.specs.Columns.{joined, portsOf, packed, stateOf}
+use Rattle.record.specs.Format.{nothing, part, bad, form}
+use Rattle.session.specs.Columns.{packed, stateOf}
 use Rattle.record.proofs.Form.{whole-found, bad-found, cut-found, end-found, whole-fits}
-use Rattle.session.proofs.Beside.{Eight, getD-columns, set-columns}
-use Rattle.session.specs.declared.Fed.{Fed}
-use Rattle.session.specs.declared.Stop.{Stop}
+use Rattle.session.proofs.Beside.{Eight, getD-columns}
 use Rattle.session.proofs.Acted.{Acted, refused, accepted, happened, device-stored}
-use Rattle.session.proofs.Link.{Link, begin, fed-is, text-out, stepped, no-record, no-rest}
+use Rattle.session.proofs.Link.{Link, begin, stops-full, stops-at, stepped}
 use Rattle.session.proofs.run.take_records.Statement.{statement}
 use Rattle.session.proofs.run.take_records.Tie as tie
-
-not-false : (b : Bool) → not b ≡ false → b ≡ true
-not-false true e = refl
-not-false false e = cc
-
--- what is answered is said of the bench that the columns hold
-ended : {b b′ : Bench} {records refused used written : ℕ} {z : Stop} {r r′ : Fed}
-    → r ≡ record { state = stateOf b records refused; used = used; written = written; stop = z } → b ≡ b′
-    → record { state = stateOf b′ records refused; used = used; written = written; stop = z } ≡ r′ → r ≡ r′
-ended {b} {b′} {records} {refused} {used} {written} {z} e f g =
-    e ∙ ap (λ (b : Bench). record { state = stateOf b records refused; used = used; written = written; stop = z }) f ∙ g
 
 abbrev Inv-loop : tie.InvT-loop
 Inv-loop records refused s out₀ short long none zero running₀ params₀ masters₀ devices₀ totals₀ bins₀ records₀ refused₀ left₀ at₀ written₀ out running params masters devices totals bins records' refused' left at written =
@@ -71,11 +56,7 @@ returns c =
     let s = now (a .before .before .before .before .before .before .before .before .args .s) in
     let x = drop (l .at) s in
     let f = whole-found (form x) x (l .at) _ _ _ _ _ (sym (a .read-record .ensures) ∙ k .kind .given .1) in
-    let n : l .left ≡ 0 = omega arith in
-    let none : recordsOf (l .left) x ≡ [] = rw n in
-    let rest : restOf (l .left) x ≡ x = rw n in
-    let b : l .written ≤ length (l .out) = omega arith in
-    (ended (c .stopped .ensures) (c .before .packed .ensures) (fed-is (l .inv .4) refl refl none rest (l .inv .1) b (rw (f .stands))), (text-out (l .inv .4) refl refl none rest (l .inv .1) b, rw (c .stopped .ensures) (l .inv .1, (b, sym (length-take-le _ _ b)))))
+    stops-full (l .inv .4) refl (l .inv .1) (omega arith) (c .before .packed .ensures) (f .stands) (omega arith) (c .stopped .ensures)
 
 sub-act-of : tie.Need-sub-act-of Inv-loop μ-loop
 sub-act-of c =
@@ -191,40 +172,22 @@ returns-2 : tie.Need-returns-2 Inv-loop μ-loop
 returns-2 c =
     let a = c .before .before .before .before in
     let l = a .before .loop in
-    let s = now (a .before .before .before .before .before .before .before .before .args .s) in
-    let x = drop (l .at) s in
-    let f = bad-found (form x) x (l .at) (sym (a .read-record .ensures) ∙ c .before .before .enum-told2 .given .1) in
-    let off : isWhole (form x) ≡ false = rw f in
-    let none = no-record (l .left) x off in
-    let rest = no-rest (l .left) x off in
-    let b : l .written ≤ length (l .out) = omega arith in
-    (ended (c .stopped2 .ensures) (c .before .packed2 .ensures) (fed-is (l .inv .4) refl refl none rest (l .inv .1) b (rw f)), (text-out (l .inv .4) refl refl none rest (l .inv .1) b, rw (c .stopped2 .ensures) (l .inv .1, (b, sym (length-take-le _ _ b)))))
+    let f = bad-found _ _ (l .at) (sym (a .read-record .ensures) ∙ c .before .before .enum-told2 .given .1) in
+    stops-at (l .inv .4) refl (l .inv .1) (omega arith) (c .before .packed2 .ensures) bad f refl (c .stopped2 .ensures)
 
 returns-3 : tie.Need-returns-3 Inv-loop μ-loop
 returns-3 c =
     let a = c .before .before .before .before in
     let l = a .before .loop in
-    let s = now (a .before .before .before .before .before .before .before .before .args .s) in
-    let x = drop (l .at) s in
-    let f = cut-found (form x) x (l .at) (sym (a .read-record .ensures) ∙ c .before .before .enum-told3 .given .1) in
-    let off : isWhole (form x) ≡ false = rw f in
-    let none = no-record (l .left) x off in
-    let rest = no-rest (l .left) x off in
-    let b : l .written ≤ length (l .out) = omega arith in
-    (ended (c .stopped3 .ensures) (c .before .packed3 .ensures) (fed-is (l .inv .4) refl refl none rest (l .inv .1) b (rw f)), (text-out (l .inv .4) refl refl none rest (l .inv .1) b, rw (c .stopped3 .ensures) (l .inv .1, (b, sym (length-take-le _ _ b)))))
+    let f = cut-found _ _ (l .at) (sym (a .read-record .ensures) ∙ c .before .before .enum-told3 .given .1) in
+    stops-at (l .inv .4) refl (l .inv .1) (omega arith) (c .before .packed3 .ensures) part f refl (c .stopped3 .ensures)
 
 returns-4 : tie.Need-returns-4 Inv-loop μ-loop
 returns-4 c =
     let a = c .before .before .before .before in
     let l = a .before .loop in
-    let s = now (a .before .before .before .before .before .before .before .before .args .s) in
-    let x = drop (l .at) s in
-    let f = end-found (form x) x (l .at) (sym (a .read-record .ensures) ∙ c .before .before .enum-told4 .given .1) in
-    let off : isWhole (form x) ≡ false = rw f in
-    let none = no-record (l .left) x off in
-    let rest = no-rest (l .left) x off in
-    let b : l .written ≤ length (l .out) = omega arith in
-    (ended (c .stopped4 .ensures) (c .before .packed4 .ensures) (fed-is (l .inv .4) refl refl none rest (l .inv .1) b (rw f)), (text-out (l .inv .4) refl refl none rest (l .inv .1) b, rw (c .stopped4 .ensures) (l .inv .1, (b, sym (length-take-le _ _ b)))))
+    let f = end-found _ _ (l .at) (sym (a .read-record .ensures) ∙ c .before .before .enum-told4 .given .1) in
+    stops-at (l .inv .4) refl (l .inv .1) (omega arith) (c .before .packed4 .ensures) nothing f refl (c .stopped4 .ensures)
 
 pub take-records-spec : {M : Type 1} → statement M
 take-records-spec =
