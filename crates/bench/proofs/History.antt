@@ -25,6 +25,7 @@ use Rattle.fs_master.specs.Calls as masters
 use Rattle.fs_master.specs.History.{masterAfter}
 use Rattle.fs_device.specs.declared.Device.{Device}
 use Rattle.fs_device.specs.Calls as devices
+use Rattle.fs_device.specs.History.{deviceAfter}
 use Rattle.histogram.specs.declared.Histogram.{Histogram}
 use Rattle.histogram.specs.Samples.{Within, none, Holds}
 use Rattle.histogram.specs.Counted.{clearedOf, countedOf}
@@ -33,7 +34,7 @@ use Rattle.histogram.proofs.Samples.{within-more}
 use Rattle.bench.specs.declared.Port.{Port}
 use Rattle.bench.specs.declared.Bench.{Bench}
 use Rattle.bench.specs.Ports.{newPort, acceptedPort, portAt, tallied, stepOf}
-use Rattle.bench.specs.History.{Call, SetParameters, ReceiveResponse, ReceiveRequest, Clock, Operator, Compose, BuildResponse, Split, Trend, Bins, ShowMaster, ShowDevice, portOf, rulesOf, answerOf, after, history, Since, never, since, goesOn, extended, sinceBlock, deviceAfter, timeOf, isSample, samples, StandsSince, Stands}
+use Rattle.bench.specs.History.{Call, SetParameters, ReceiveResponse, ReceiveRequest, Clock, Operator, Compose, BuildResponse, Split, Trend, Bins, ShowMaster, ShowDevice, portOf, rulesOf, answerOf, after, history, Since, never, since, goesOn, extended, sinceBlock, timeOf, isSample, samples, StandsSince, Stands}
 use Rattle.bench.proofs.Index.{new-at}
 use Rattle.bench.proofs.Answers.{answer-is, exactly, refused-same}
 use Rattle.bench.proofs.AtPort.{eight, takenAt, taken-at, other-at}

@@ -37,14 +37,14 @@ use Rattle.fs_device.specs.declared.Row.{Row}
 use Rattle.fs_device.specs.declared.Row.the-variants.{Stay, T22, T25, T28, T29, T30, T31}
 use Rattle.fs_device.specs.Table40 as table40
 use Rattle.fs_device.specs.Calls as devices
-use Rattle.fs_device.specs.History.{waits}
-use Rattle.fs_device.proofs.Faults.{waiting}
+use Rattle.fs_device.specs.History.{deviceAfter}
+use Rattle.fs_device.proofs.Faults.{waits-always}
 use Rattle.histogram.proofs.Counting.{nothing-wraps}
 use Rattle.bench.specs.declared.Port.{Port}
 use Rattle.bench.specs.Ports.{newPort, portAt}
 use Rattle.bench.specs.Calls.{placed, parametersAs}
 use Rattle.bench.specs.Ports.{silent}
-use Rattle.bench.specs.History.{Call, SetParameters, ReceiveResponse, ReceiveRequest, Clock, Operator, Compose, BuildResponse, Split, Trend, Bins, ShowMaster, ShowDevice, portOf, answerOf, history, Since, never, since, goesOn, extended, sinceBlock, deviceAfter, Previous, previousBy, lastTaken, StandsSince, Stands, Arising, blockIn, OctetsIn, no-call, one-more}
+use Rattle.bench.specs.History.{Call, SetParameters, ReceiveResponse, ReceiveRequest, Clock, Operator, Compose, BuildResponse, Split, Trend, Bins, ShowMaster, ShowDevice, portOf, answerOf, history, Since, never, since, goesOn, extended, sinceBlock, Previous, previousBy, lastTaken, StandsSince, Stands, Arising, blockIn, OctetsIn, no-call, one-more}
 use Rattle.bench.proofs.Samples.{previous-is}
 use Rattle.bench.proofs.History.{stands}
 
@@ -158,11 +158,6 @@ module _ (at w : ℕ) where
   unfolding deviceAfter
   bounded-always none = record { taken-count = omega arith; mirrored = omega arith; cycles = omega arith; errors = omega arith; timeouts = omega arith }
   bounded-always (more {h} {past} r rest) = step-bounded (deviceAfter at w past) w h r (bounded-always rest)
-
-  waits-always : (past : List Happening) → waits (deviceAfter at w past) ≡ true
-  unfolding deviceAfter
-  waits-always [] = refl
-  waits-always (h ∷ past) = waiting (deviceAfter at w past) w h (waits-always past)
 
 -- ---- since the last accepted block
 

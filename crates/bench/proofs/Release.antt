@@ -1,5 +1,5 @@
--- What 01's rows come to at the FS-Master of a port, after every list of calls from the new bench. Assumes nothing.
-use Prim.Native.Nat.{ℕ}
+-- What the rows come to at both ends of a port, after every list of calls from the new bench. Assumes nothing.
+use Prim.Native.Nat.{ℕ, _<_}
 use mathlib.Core.Path.{_≡_, sym, ap, _∙_}
 use mathlib.Core.Bool.{true, false}
 use mathlib.Core.List.{List}
@@ -11,6 +11,9 @@ use Rattle.fs_master.specs.History.{masterAfter, hasPassed, signals, HoldsSigna
 use Rattle.fs_master.proofs.Release as released
 use Rattle.fs_master.proofs.Acknowledge as acknowledge
 use Rattle.fs_master.proofs.Signals as held
+use Rattle.fs_device.specs.declared.Device.{Device}
+use Rattle.fs_device.specs.History.{deviceAfter, passedSince, hadErrorOrTimeout}
+use Rattle.fs_device.proofs.Release as cycles
 use Rattle.bench.specs.Ports.{portAt}
 use Rattle.bench.specs.History.{Call, history, Since, since, sinceBlock, StandsSince, Stands}
 use Rattle.bench.proofs.History.{stands}
@@ -19,6 +22,9 @@ use Rattle.bench.proofs.History.{stands}
 module _ (q : ℕ) (known : outside 1 8 q ≡ false) (calls : List Call) (at : ℕ) (params : Params) (past : List Happening) (block : sinceBlock q calls ≡ since at params past) where
   abbrev master : Master
   master = portAt (history calls) q .master
+
+  abbrev device : Device
+  device = portAt (history calls) q .device
 
   abbrev w : ℕ
   w = params .«FSP_WatchdogTime»
@@ -38,3 +44,11 @@ module _ (q : ℕ) (known : outside 1 8 q ≡ false) (calls : List Call) (at : �
   -- "Operator signals hold until the next operator happening, and are both off after an accepted block"
   pub signals-hold : HoldsSignals (signals past) master
   signals-hold = rw (standing .master) (held.signals-hold at w past)
+
+  -- the FS-Device releases no process values before SDcycles has run from 3 to 0: since the block, or the last error or timeout, SPDUs passed,
+  pub cycles-first : device .released ≡ true → 3 < passedSince at w past
+  cycles-first e = cycles.cycles-first at w past (rw (standing .device) at e)
+
+  -- and one more where there was an error or a timeout
+  pub after-error : hadErrorOrTimeout at w past ≡ true → device .released ≡ true → 4 < passedSince at w past
+  after-error had e = cycles.after-error at w past had (rw (standing .device) at e)

@@ -29,7 +29,6 @@ use Rattle.fs_master.specs.declared.Master.{Master}
 use Rattle.fs_master.specs.Table38 as table38
 use Rattle.fs_master.specs.Calls as masters
 use Rattle.fs_master.specs.History.{Held, masterAfter, judgedIn, passesBy}
-use Rattle.fs_device.specs.declared.Device.{Device}
 use Rattle.fs_device.specs.Table40 as table40
 use Rattle.fs_device.specs.Calls as devices
 use Rattle.fs_device.specs.History as deviceSpecs
@@ -160,12 +159,6 @@ sinceBlock q [] = never
 sinceBlock q (c ∷ past) =
     cond (eqb (portOf c) q && isTaken (answerOf (history past) c)) (extended (sinceBlock q past) c) (sinceBlock q past)
 
--- ---- The FS-Device, after what happened since a block at this reading with this W
-
-unfoldable pub deviceAfter : ℕ → ℕ → List Happening → Device
-deviceAfter at w [] = table40.firstDevice at
-deviceAfter at w (h ∷ past) = devices.stepOf (deviceAfter at w past) w h .device
-
 -- ---- Samples: "A sample is the first response that passes for each count sent, with elapsed t at most W, in any state."
 
 -- "A repeated response isn't a second sample" (R14a)
@@ -241,7 +234,7 @@ pub record StandsSince (p : Port) (at : ℕ) (params : Params) (past : List Happ
   pub running : p .running ≡ true
   pub parameters : p .params ≡ params
   pub master : p .master ≡ masterAfter at (params .«FSP_WatchdogTime») past
-  pub device : p .device ≡ deviceAfter at (params .«FSP_WatchdogTime») past
+  pub device : p .device ≡ deviceSpecs.deviceAfter at (params .«FSP_WatchdogTime») past
   -- bins, total, sum, lowest and highest are those of the samples, up to the freeze
   pub counted : Holds (params .«FSP_WatchdogTime») (samples at (params .«FSP_WatchdogTime») past) (p .histogram)
   pub within : Within (params .«FSP_WatchdogTime») (samples at (params .«FSP_WatchdogTime») past)
