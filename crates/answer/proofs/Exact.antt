@@ -2,13 +2,14 @@
 -- given only for that rule. Assumes nothing.
 use mathlib.Core.Path.{_≡_, refl, sym, ap, _∙_}
 use mathlib.Core.Logic.{_↔_, _⊎_, inl, inr}
-use mathlib.Core.Bool.{Bool, true, false, _&&_, not, and-false}
+use mathlib.Core.Bool.{Bool, true, false, _&&_, not, and-false, true≢false, false≢true}
 use mathlib.Core.List.{List, [], _∷_}
 use Prim.Native.Nat.{ℕ, zero, suc, _+_, _*_, _<_}
 use native.Mathlib.Nat.{le-of-suc-le-suc}
 use native.Mathlib.Omega.{arith}
-use lib.Dec.{T, eqb, eqb-refl}
+use lib.Dec.{T, T-not, eqb, eqb-refl}
 use lib.ListN.{length, getD}
+use mir.Facts.{and-yes}
 use Rattle.answer.specs.declared.Answer.{Answer}
 use Rattle.answer.specs.declared.Answer.the-variants.{Taken}
 use Rattle.answer.specs.Answers.{numberOf, offsetOf, isTaken}
@@ -33,28 +34,20 @@ distinct [] = true
 distinct (x ∷ xs) = absent x xs && distinct xs
 
 -- ---- each answer stands at one place of the list
-both : (a b : Bool) → T (a && b) → T a × T b
-both true b t = (tt, t)
-both false b t = absurd t
-
 differs : (x y : ℕ) → T (not (eqb x y)) → x ≡ y → ⊥
-differs x y t e = go (eqb x y) t (rw e (eqb-refl y))
-  where
-    go : (b : Bool) → T (not b) → T b → ⊥
-    go true t u = t
-    go false t u = u
+differs x y t e = T-not (eqb x y) t (rw e (eqb-refl y))
 
 elsewhere : (x : ℕ) (ys : List ℕ) (j : ℕ) → T (absent x ys) → j < length ys → x ≡ getD ys j 0 → ⊥
 elsewhere x [] j t h e = absurd (omega arith)
-elsewhere x (y ∷ ys) zero t h e = differs x y (both (not (eqb x y)) (absent x ys) t .0) e
-elsewhere x (y ∷ ys) (suc j) t h e = elsewhere x ys j (both (not (eqb x y)) (absent x ys) t .1) (le-of-suc-le-suc h) e
+elsewhere x (y ∷ ys) zero t h e = differs x y (and-yes (not (eqb x y)) (absent x ys) t .0) e
+elsewhere x (y ∷ ys) (suc j) t h e = elsewhere x ys j (and-yes (not (eqb x y)) (absent x ys) t .1) (le-of-suc-le-suc h) e
 
 one-place : (xs : List ℕ) (i j : ℕ) → T (distinct xs) → i < length xs → j < length xs → getD xs i 0 ≡ getD xs j 0 → i ≡ j
 one-place [] i j t h k e = absurd (omega arith)
 one-place (x ∷ xs) zero zero t h k e = refl
-one-place (x ∷ xs) zero (suc j) t h k e = absurd (elsewhere x xs j (both (absent x xs) (distinct xs) t .0) (le-of-suc-le-suc k) e)
-one-place (x ∷ xs) (suc i) zero t h k e = absurd (elsewhere x xs i (both (absent x xs) (distinct xs) t .0) (le-of-suc-le-suc h) (sym e))
-one-place (x ∷ xs) (suc i) (suc j) t h k e = ap suc (one-place xs i j (both (absent x xs) (distinct xs) t .1) (le-of-suc-le-suc h) (le-of-suc-le-suc k) e)
+one-place (x ∷ xs) zero (suc j) t h k e = absurd (elsewhere x xs j (and-yes (absent x xs) (distinct xs) t .0) (le-of-suc-le-suc k) e)
+one-place (x ∷ xs) (suc i) zero t h k e = absurd (elsewhere x xs i (and-yes (absent x xs) (distinct xs) t .0) (le-of-suc-le-suc h) (sym e))
+one-place (x ∷ xs) (suc i) (suc j) t h k e = ap suc (one-place xs i j (and-yes (absent x xs) (distinct xs) t .1) (le-of-suc-le-suc h) (le-of-suc-le-suc k) e)
 
 codes-length : (rules : List Rule) → length (codes rules) ≡ length rules
 codes-length [] = refl
@@ -99,7 +92,7 @@ find (rule false a ∷ rules) = elim (find rules) [ inl (i, (f, h)) ↦ inl (suc
 
 takes : (rules : List Rule) → Kept rules → answerBy Taken rules ≡ Taken
 takes [] k = refl
-takes (rule true a ∷ rules) k = let z : _≡_ {A = Bool} true false = k .each 0 in cc
+takes (rule true a ∷ rules) k = absurd (true≢false (k .each 0))
 takes (rule false a ∷ rules) k = takes rules (record { each = λ j. k .each (suc j) })
 
 -- no rule's answer is TAKEN
@@ -112,21 +105,21 @@ false-of-not true t = absurd t
 false-of-not false t = refl
 
 refuses : (rules : List Rule) (i : ℕ) → T (refusing rules) → First rules i → answerBy Taken rules ≡ answerAt rules i
-refuses [] i t f = let z : _≡_ {A = Bool} false true = f .broken in cc
-refuses (rule true a ∷ rules) zero t f = stands a rules (false-of-not (isTaken a) (both (not (isTaken a)) (refusing rules) t .0))
-refuses (rule false a ∷ rules) zero t f = let z : _≡_ {A = Bool} false true = f .broken in cc
-refuses (rule true a ∷ rules) (suc i) t f = let z : _≡_ {A = Bool} true false = f .earlier 0 (omega arith) in cc
-refuses (rule false a ∷ rules) (suc i) t f = refuses rules i (both (not (isTaken a)) (refusing rules) t .1) (sooner f)
+refuses [] i t f = absurd (false≢true (f .broken))
+refuses (rule true a ∷ rules) zero t f = stands a rules (false-of-not (isTaken a) (and-yes (not (isTaken a)) (refusing rules) t .0))
+refuses (rule false a ∷ rules) zero t f = absurd (false≢true (f .broken))
+refuses (rule true a ∷ rules) (suc i) t f = absurd (true≢false (f .earlier 0 (omega arith)))
+refuses (rule false a ∷ rules) (suc i) t f = refuses rules i (and-yes (not (isTaken a)) (refusing rules) t .1) (sooner f)
 
 refusal : (rules : List Rule) (i : ℕ) → T (refusing rules) → i < length rules → isTaken (answerAt rules i) ≡ false
 refusal [] i t h = absurd (omega arith)
-refusal (rule b a ∷ rules) zero t h = false-of-not (isTaken a) (both (not (isTaken a)) (refusing rules) t .0)
-refusal (rule b a ∷ rules) (suc i) t h = refusal rules i (both (not (isTaken a)) (refusing rules) t .1) (le-of-suc-le-suc h)
+refusal (rule b a ∷ rules) zero t h = false-of-not (isTaken a) (and-yes (not (isTaken a)) (refusing rules) t .0)
+refusal (rule b a ∷ rules) (suc i) t h = refusal rules i (and-yes (not (isTaken a)) (refusing rules) t .1) (le-of-suc-le-suc h)
 
 -- ---- the theorems
 module _ (rules : List Rule) (apart : T (distinct (codes rules))) (refusals : T (refusing rules)) where
   never : {A : Type 0} {i : ℕ} → i < length rules → Taken ≡ answerAt rules i → A
-  never {A} {i} h e = let z : _≡_ {A = Bool} true false = ap isTaken e ∙ refusal rules i refusals h in absurd (let y : _≡_ {A = ℕ} 0 1 = cc in omega arith)
+  never {A} {i} h e = absurd (true≢false (ap isTaken e ∙ refusal rules i refusals h))
 
   -- A rule's answer is given exactly where the rule is broken and none before it is.
   pub given-exactly : (i : ℕ) → i < length rules → (answerBy Taken rules ≡ answerAt rules i) ↔ First rules i
@@ -146,4 +139,4 @@ module _ (rules : List Rule) (apart : T (distinct (codes rules))) (refusals : T 
   taken-exactly = (only, λ k. ap isTaken (takes rules k))
     where
       only : isTaken (answerBy Taken rules) ≡ true → Kept rules
-      only e = elim (find rules) [ inl (j, (f, k)) ↦ let z : _≡_ {A = Bool} false true = sym (refusal rules j refusals k) ∙ ap isTaken (sym (refuses rules j refusals f)) ∙ e in absurd (let y : _≡_ {A = ℕ} 0 1 = cc in omega arith) | inr kept ↦ kept ]
+      only e = elim (find rules) [ inl (j, (f, k)) ↦ absurd (false≢true (sym (refusal rules j refusals k) ∙ ap isTaken (sym (refuses rules j refusals f)) ∙ e)) | inr kept ↦ kept ]

@@ -1,39 +1,35 @@
 -- Parameters that are taken satisfy every bound that the layers above rest on. Assumes nothing.
 use mathlib.Core.Path.{_≡_, refl, sym, ap, _∙_}
 use mathlib.Core.Logic.{_⊎_, inl, inr}
-use mathlib.Core.Bool.{Bool, true, false, not, _&&_, _||_}
+use mathlib.Core.Bool.{Bool, true, false, not, _&&_, _||_, true≢false, and-eq-true-iff}
 use mathlib.Core.List.{List}
 use Prim.Native.Nat.{ℕ, _+_, _-_, _*_, _≤_, _<_}
 use native.Mathlib.Omega.{arith}
 use borrow.Author.Tests.{ltb-false, leb-true, leb-false, eqb-true, eqb-false, not-false, le-leb}
-use lib.ListN.{getD}
 use lib.Dec.{T, eqb, leb, ltb, leb→le, nleb→lt}
 use Rattle.block.specs.declared.Params.{Params}
+use Rattle.block.specs.Octets.{Octets}
 use Rattle.block.specs.Table22.{paramsOf}
 use Rattle.answer.specs.Answers.{isTaken}
 use Rattle.answer.specs.Rules.{Kept}
 use Rattle.ranges.specs.Fields.{inside, outside, neither, safetyOctets, mostProcessOctets, lengthBroken}
 use Rattle.block.specs.Rules.{rulesOn, judged}
-use Rattle.block.specs.Accepted.{Fits, Accepted}
+use Rattle.block.specs.Accepted.{SpduFits, Accepted}
 use Rattle.block.proofs.Answered.{taken, taken-params}
 
 -- ---- what a test that is false, or true, says
 or-false : (a b : Bool) → (a || b) ≡ false → (a ≡ false) × (b ≡ false)
-or-false true b e = let z : _≡_ {A = Bool} true false = e in (z, cc)
+or-false true b e = absurd (true≢false e)
 or-false false b e = (refl, e)
 
 or-true : (a b : Bool) → (a || b) ≡ true → (a ≡ true) ⊎ (b ≡ true)
 or-true true b e = inl refl
 or-true false b e = inr e
 
-and-true : (a b : Bool) → (a && b) ≡ true → (a ≡ true) × (b ≡ true)
-and-true true b e = (refl, e)
-and-true false b e = let z : _≡_ {A = Bool} false true = e in (z, cc)
-
 -- ---- a range that is kept
 range : (low high x : ℕ) → outside low high x ≡ false → (low ≤ x) × (x ≤ high)
 range low high x e =
-    let p = and-true (leb low x) (leb x high) (not-false (inside low high x) e) in
+    let p = and-eq-true-iff (leb low x) (leb x high) .0 (not-false (inside low high x) e) in
     (leb-true low x (p .0), leb-true x high (p .1))
 
 one-of : (a b x : ℕ) → neither a b x ≡ false → (x ≡ a) ⊎ (x ≡ b)
@@ -53,7 +49,7 @@ module _ (protMode other length octets int16 int32 : ℕ) (kept : lengthBroken p
   sum : length ≡ H + octets + 2 * int16 + 4 * int32
   sum = eqb-true length (H + octets + 2 * int16 + 4 * int32) (not-false (eqb length (H + octets + 2 * int16 + 4 * int32)) (sides .1))
 
-  fits : Fits protMode other length
+  fits : SpduFits protMode other length
   fits =
       let r = range 5 (32 - other) length (sides .0) in
       let m : length ≤ H + mostProcessOctets protMode = ltb-false (H + mostProcessOctets protMode) length (parts .1) in
@@ -80,8 +76,8 @@ mode-known m h e f =
     (λ u. cases (leb m 51) (λ v. absurd (eqb-false m 51 (z .1) (omega (arith, leb→le m 51 v, nleb→lt m 50 u))))
     (λ v. let c : 96 < m = past 52 96 m (y .1) (omega (arith, nleb→lt m 51 v)) in absurd (omega (arith, past 97 255 m (x .1) (omega arith))))))
 
--- ---- what is taken is within its bounds; s are octets
-pub accepted : (s : List ℕ) (port : ℕ) → ((i : ℕ) → getD s i 0 < 256) → isTaken (judged s port .answer) ≡ true → Accepted port (judged s port .params)
+-- ---- what is taken is within its bounds
+pub accepted : (s : List ℕ) (port : ℕ) → Octets s → isTaken (judged s port .answer) ≡ true → Accepted port (judged s port .params)
 accepted s port octets e = rw (taken-params s port e) bounds
   where
     kept : Kept (rulesOn s port)

@@ -1,3 +1,4 @@
 pub mod Whole
 pub mod Answered
 pub mod Bounds
+pub mod Arises

@@ -1,4 +1,5 @@
--- What parameters that are taken satisfy: what the layers above rest on. Assumes nothing.
+-- 01, "The parameter block": what parameters that are taken satisfy. It follows from the rules (`accepted`), and the layers above rest on it.
+-- Assumes nothing.
 use Prim.Native.Nat.{ℕ, _+_, _-_, _*_, _≤_}
 use mathlib.Core.Path.{_≡_}
 use mathlib.Core.Logic.{_⊎_}
@@ -6,7 +7,7 @@ use Rattle.block.specs.declared.Params.{Params}
 use Rattle.ranges.specs.Fields.{safetyOctets, mostProcessOctets}
 
 -- an SPDU's length beside other octets in the image
-pub record Fits (protMode other length : ℕ) : Type 0 where
+pub record SpduFits (protMode other length : ℕ) : Type 0 where
   pub least : 5 ≤ length
   pub room : length + other ≤ 32
   pub safety : safetyOctets protMode ≤ length
@@ -19,8 +20,8 @@ pub record Accepted (port : ℕ) (p : Params) : Type 0 where
   pub mode : (p .PortMode ≡ 49) ⊎ (p .PortMode ≡ 50)
   pub protocol-mode : (p .«FSP_ProtMode» ≡ 1) ⊎ (p .«FSP_ProtMode» ≡ 2)
   pub watchdog : (1 ≤ p .«FSP_WatchdogTime») × (p .«FSP_WatchdogTime» ≤ 65535)
-  pub input : Fits (p .«FSP_ProtMode») (p .InputDataLength) (p .SPDUInLength)
-  pub output : Fits (p .«FSP_ProtMode») (p .OutputDataLength) (p .SPDUOutLength)
+  pub input : SpduFits (p .«FSP_ProtMode») (p .InputDataLength) (p .SPDUInLength)
+  pub output : SpduFits (p .«FSP_ProtMode») (p .OutputDataLength) (p .SPDUOutLength)
   pub input-bits : p .TotalOfInBits ≤ 8 * p .TotalOfInOctets
   pub output-bits : p .TotalOfOutBits ≤ 8 * p .TotalOfOutOctets
   pub input-sum : p .SPDUInLength ≡ safetyOctets (p .«FSP_ProtMode») + p .TotalOfInOctets + 2 * p .TotalOfInInt16 + 4 * p .TotalOfInInt32

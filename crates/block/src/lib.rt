@@ -7,6 +7,7 @@ mod octets;
 
 use answer::Answer;
 use answer::refuse;
+pub use octets::word;
 
 // An accepted block as it stands, under 000's names: all but its ID, the three signatures that are checked, and IO_DescVersion. The layers above read
 // FSP_Port, FSP_ProtMode, FSP_WatchdogTime (W) and the four lengths: InputDataLength is n, OutputDataLength p, SPDUInLength m, SPDUOutLength o.

@@ -9,7 +9,8 @@ use crate::Block;
 use crate::Params;
 use crate::Signatures;
 
-fn word(a: u8, b: u8) -> u16
+// Two octets as one number.
+pub fn word(a: u8, b: u8) -> u16
     ensures { λ r. ⌜ r ≡ octets.word a b ⌝ }
 {
     a as u16 * 256 + b as u16

@@ -7,8 +7,8 @@ use mathlib.Core.List.{List, [], _∷_, _++_, tail}
 use Prim.Native.Nat.{ℕ, _%_, _≤_}
 use native.Mathlib.Omega.{arith}
 use lib.ListN.{length, length-append}
-use Rattle.gf2.specs.Polynomial.{_⊻_, _⊕_, scale, zeros, product, Multiple, ones, Within}
-use Rattle.gf2.specs.Register.{top, shift, step, register, Flips, Passes}
+use Rattle.gf2.specs.Polynomial.{_⊻_, _⊕_, scale, zeros, product, Multiple, ones, Burst}
+use Rattle.gf2.specs.Register.{top, shift, step, register, SameLengths, Passes}
 use Rattle.gf2.specs.Generators.{EndsInOne, EvenOnes}
 use Rattle.gf2.proofs.Product.{product-cons, product-length, multiple-sum, multiple-even, multiple-burst, multiple-generator}
 use Rattle.gf2.proofs.Sum.{
@@ -85,7 +85,7 @@ module _ (g : List Bool) where
   register-length [] r h = h
   register-length (d ∷ ds) r h = register-length ds (step g r d) (step-length r d h)
 
-module _ {g seed ds es ec : List Bool} (f : Flips g seed ds es ec) where
+module _ {g seed ds es ec : List Bool} (f : SameLengths g seed ds es ec) where
   -- What arrives passes exactly where the flips, the register's lowest, are a multiple of the generator.
   pub detects : Passes g seed ds es ec ↔ Multiple g (es ++ ec)
   detects =
@@ -103,7 +103,7 @@ module _ {g seed ds es ec : List Bool} (f : Flips g seed ds es ec) where
       (λ m. rw x at (multiple-sum g k m (omega arith)), λ m. multiple-sum g k m (omega arith))
 
   -- Flips within w neighbouring bits pass only if there are none, if the generator's constant term is 1.
-  pub burst-detected : EndsInOne g → (i : ℕ) → Within i (length g) (es ++ ec) → Passes g seed ds es ec → ones (es ++ ec) ≡ 0
+  pub burst-detected : EndsInOne g → (i : ℕ) → Burst i (length g) (es ++ ec) → Passes g seed ds es ec → ones (es ++ ec) ≡ 0
   burst-detected h i w p = multiple-burst g h i w (detects .0 p)
 
   -- An odd number of flips never passes, if the generator has an even number of ones.

@@ -4,3 +4,4 @@ pub mod Detect
 pub mod Table
 pub mod Bits
 pub mod Generators
+pub mod Arises

@@ -1,13 +1,16 @@
 -- The multiples of a generator: their sums; how many ones they have; and where the ones stand.
 -- Assumes nothing.
 use mathlib.Core.Path.{_≡_, refl, sym, ap, ap₂, _∙_}
-use mathlib.Core.Bool.{Bool, true, false, _&&_}
+use mathlib.Core.Bool.{Bool, true, false, _&&_, false≢true}
 use mathlib.Core.List.{List, [], _∷_, _++_}
-use Prim.Native.Nat.{ℕ, zero, suc, _+_, _-_, _%_, _≤_}
+use Prim.Native.Nat.{ℕ, zero, suc, _+_, _-_, _%_, _≤_, _<_}
 use native.Mathlib.Nat.{zero-add, add-comm, suc-add, sub-zero, suc-sub-suc}
 use native.Mathlib.Omega.{arith}
-use lib.ListN.{length, getD, length-replicate, List·getD-eq-default}
-use Rattle.gf2.specs.Polynomial.{_⊻_, _⊕_, scale, zeros, product, Multiple, Within, ones, total}
+use borrow.Author.Tests.{leb-true, leb-false}
+use lib.Dec.{leb}
+use lib.ListN.{length, getD, take, drop, length-replicate, List·getD-eq-default}
+use lib.Seq.{getD-take, getD-drop}
+use Rattle.gf2.specs.Polynomial.{_⊻_, _⊕_, scale, zeros, product, Multiple, Burst, ones, total}
 use Rattle.gf2.specs.Generators.{EndsInOne, EvenOnes}
 use Rattle.gf2.proofs.Sum.{sum-comm, sum-assoc, sum-left-comm, sum-length, sum-bit, sum-zeros, sum-longer, zeros-sum, zeros-bit, scale-length, scale-sum}
 
@@ -22,6 +25,31 @@ ones-sum (false ∷ a) (false ∷ b) = ones-sum a b
 ones-zeros : (n : ℕ) → ones (zeros n) ≡ 0
 ones-zeros zero = refl
 ones-zeros (suc n) = ones-zeros n
+
+-- ---- a burst, by counts of ones that antt computes
+some-one : (e : List Bool) (k : ℕ) → getD e k false ≡ true → 0 < ones e
+some-one [] k h = absurd (false≢true h)
+some-one (true ∷ e) k h = omega arith
+some-one (false ∷ e) zero h = absurd (false≢true h)
+some-one (false ∷ e) (suc k) h = some-one e k h
+
+at-least : (i k : ℕ) → (k < i → ⊥) → i ≤ k
+at-least i k f = go (leb i k) refl
+  where
+    go : (b : Bool) → leb i k ≡ b → i ≤ k
+    go true e = leb-true i k e
+    go false e = absurd (f (leb-false i k e))
+
+-- where no one stands before i, and none from i + n on, they stand within n places from i
+pub burst-by-ones : (i n : ℕ) (e : List Bool) → ones (take i e) ≡ 0 → ones (drop (i + n) e) ≡ 0 → Burst i n e
+burst-by-ones i n e before behind k h =
+    (at-least i k (λ l. omega (arith, some-one (take i e) k (rw getD-take h))), at-least (suc k) (i + n) past)
+  where
+    past : i + n < suc k → ⊥
+    past l =
+        let m : ℕ = k - (i + n) in
+        let at : i + n + m ≡ k = omega arith in
+        omega (arith, some-one (drop (i + n) e) m (rw (getD-drop, at) h))
 
 module _ (g : List Bool) where
   pub product-cons : (a : Bool) (q : List Bool) → product g (a ∷ q) ≡ a ∷ (scale a g ⊕ product g q)
@@ -102,7 +130,7 @@ module _ (g : List Bool) where
       ap₂ _∷_ (low-first c a (length q) (rw e at (h (length g) (omega arith)))) e
 
   -- The first bits of a product are q's too, one after the other.
-  high : EndsInOne g → (q : List Bool) (i : ℕ) → Within i (length g) (product g q) → q ≡ zeros (length q)
+  high : EndsInOne g → (q : List Bool) (i : ℕ) → Burst i (length g) (product g q) → q ≡ zeros (length q)
   high c [] i h = refl
   high c (a ∷ q) zero h = low c (a ∷ q) (λ k l. go k l (getD (product g (a ∷ q)) k false) refl)
     where
@@ -113,7 +141,7 @@ module _ (g : List Bool) where
   high c (false ∷ q) (suc i) h = ap (_∷_ false) (high c q i (λ k e. omega (arith, h (suc k) (rw product-zero e))))
 
   -- A multiple that has its ones within w neighbouring places has none, if the generator's constant term is 1.
-  pub multiple-burst : {e : List Bool} → EndsInOne g → (i : ℕ) → Within i (length g) e → Multiple g e → ones e ≡ 0
+  pub multiple-burst : {e : List Bool} → EndsInOne g → (i : ℕ) → Burst i (length g) e → Multiple g e → ones e ≡ 0
   multiple-burst c i h m =
       let q = m .quotient in
       let z : product g q ≡ zeros (length q + length g) = ap (product g) (high c q i (rw (m .exact) at h)) ∙ product-zeros (length q) in

@@ -18,7 +18,7 @@ register-append g r [] es = refl
 register-append g r (d ∷ ds) es = register-append g (step g r d) ds es
 
 module _ (g : List Bool) where
-  pub register-sum : (r s ds es : List Bool) → length r ≡ length g → length s ≡ length g → length ds ≡ length es
+  register-sum : (r s ds es : List Bool) → length r ≡ length g → length s ≡ length g → length ds ≡ length es
       → register g (r ⊕ s) (ds ⊕ es) ≡ register g r ds ⊕ register g s es
   register-sum r s ds es hr hs he =
       let a : List Bool = register g r ds in

@@ -1,4 +1,4 @@
--- A number's bits, the highest first. Assumes nothing.
+-- A number's bits, the highest first (01, "Signatures": "most significant bit first, not reflected"). Assumes nothing.
 use mathlib.Core.Bool.{Bool}
 use mathlib.Core.List.{List, [], _∷_, _++_}
 use Prim.Native.Nat.{ℕ, zero, suc, _^_, _/_, _%_}

@@ -44,8 +44,8 @@ ones (true ∷ a) = suc (ones a)
 ones (false ∷ a) = ones a
 
 -- each one of e stands at one of the n neighbouring places from i on
-abbrev pub Within : ℕ → ℕ → List Bool → Type 0
-Within i n e = (k : ℕ) → getD e k false ≡ true → (i ≤ k) × (k < i + n)
+abbrev pub Burst : ℕ → ℕ → List Bool → Type 0
+Burst i n e = (k : ℕ) → getD e k false ≡ true → (i ≤ k) × (k < i + n)
 
 -- f 0 + f 1 + .. + f (n - 1): with it proofs/Product.antt states the textbook's product, and shows that `product` is that
 abbrev pub total : (ℕ → Bool) → ℕ → Bool

@@ -1,4 +1,5 @@
--- Division by a generator in a shift register that is a list of bits, the highest first. Assumes nothing.
+-- Division by a generator in a shift register that is a list of bits, the highest first: the loop of 000 Figures D.3 and D.5, whose register is a
+-- number in the crate `signature`. Assumes nothing.
 use mathlib.Core.Path.{_≡_}
 use mathlib.Core.Bool.{Bool, false}
 use mathlib.Core.List.{List, [], _∷_, _++_}
@@ -23,8 +24,8 @@ abbrev pub register : List Bool → List Bool → List Bool → List Bool
 register g r [] = r
 register g r (d ∷ ds) = register g (step g r d) ds
 
--- A message ds, and flips of the same lengths: es of the message's bits, and ec of the register's that is sent behind it.
-pub record Flips (g seed ds es ec : List Bool) : Type 0 where
+-- 01, demand 3: a message ds, and flips of the same lengths, es of the message's bits and ec of those of the register that is sent behind it
+pub record SameLengths (g seed ds es ec : List Bool) : Type 0 where
   pub in-seed : length seed ≡ length g
   pub in-message : length es ≡ length ds
   pub in-register : length ec ≡ length g

@@ -1,3 +1,4 @@
 pub mod Samples
 pub mod Counting
 pub mod Trends
+pub mod Arises

@@ -1,4 +1,5 @@
--- What it means that a conversion to a float loses nothing, and that a float is the nearest to a fraction, over the values of `lib.Ieee`.
+-- 01, "The histogram and the trend": what it means that a conversion to a float is exact, and that a fraction is rounded once, to the float nearest
+-- to it, over the values of `lib.Ieee`.
 -- `HasValue x s a c` there says that x is finite, has the sign s, and is a / c in size. Assumes nothing.
 use Prim.Native.Nat.{ℕ, _+_, _-_, _*_, _≤_}
 use mathlib.Core.Path.{_≡_}

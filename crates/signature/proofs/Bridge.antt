@@ -18,7 +18,7 @@ use Rattle.gf2.proofs.Table.{register-append}
 use Rattle.signature.specs.Signature.{shiftIn, shiftInAll, octet, signature}
 
 module _ (w g : ℕ) where
-  pub shiftIn-bits : (r : ℕ) (d : Bool) → bits w (shiftIn w g r d) ≡ step (bits w g) (bits w r) d
+  shiftIn-bits : (r : ℕ) (d : Bool) → bits w (shiftIn w g r d) ≡ step (bits w g) (bits w r) d
   unfolding shiftIn
   shiftIn-bits r d = picked (top (bits w r) ⊻ d)
     where

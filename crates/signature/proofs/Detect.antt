@@ -8,8 +8,8 @@ use Prim.Native.Nat.{ℕ, _+_, _*_, _%_, _^_, _<_}
 use native.Mathlib.Omega.{arith}
 use lib.Bits.{bitXor, xor-lt}
 use lib.ListN.{length, length-append}
-use Rattle.gf2.specs.Polynomial.{_⊕_, Multiple, ones, Within}
-use Rattle.gf2.specs.Register.{register, Flips, Passes}
+use Rattle.gf2.specs.Polynomial.{_⊕_, Multiple, ones, Burst}
+use Rattle.gf2.specs.Register.{register, SameLengths, Passes}
 use Rattle.gf2.specs.Bits.{bits, octetBits}
 use Rattle.gf2.specs.Generators.{EndsInOne, EvenOnes}
 use Rattle.gf2.proofs.Sum.{sum-append}
@@ -19,11 +19,11 @@ use Rattle.gf2.proofs.Detect as bitwise
 use Rattle.signature.specs.Signature.{signature, flipped}
 use Rattle.signature.proofs.Bridge.{signature-bits, signature-lt}
 
-pub octetBits-length : (xs : List ℕ) → length (octetBits xs) ≡ length xs * 8
+octetBits-length : (xs : List ℕ) → length (octetBits xs) ≡ length xs * 8
 octetBits-length [] = refl
 octetBits-length (x ∷ xs) = length-append (bits 8 x) (octetBits xs) ∙ omega (arith, octetBits-length xs, bits-length 8 x)
 
-pub octetBits-flipped : (xs es : List ℕ) → length es ≡ length xs → octetBits (flipped xs es) ≡ octetBits xs ⊕ octetBits es
+octetBits-flipped : (xs es : List ℕ) → length es ≡ length xs → octetBits (flipped xs es) ≡ octetBits xs ⊕ octetBits es
 octetBits-flipped [] [] h = refl
 octetBits-flipped [] (e ∷ es) h = absurd (omega arith)
 octetBits-flipped (x ∷ xs) [] h = absurd (omega arith)
@@ -35,7 +35,7 @@ module _ (w g seed : ℕ) (xs es : List ℕ) (c : ℕ) (hg : g < 2 ^ w) (hs : se
   abbrev arrives : Type 0
   arrives = signature w g seed (flipped xs es) ≡ bitXor (signature w g seed xs) c
 
-  flips : Flips (bits w g) (bits w seed) (octetBits xs) (octetBits es) (bits w c)
+  flips : SameLengths (bits w g) (bits w seed) (octetBits xs) (octetBits es) (bits w c)
   flips = record {
     in-seed = bits-length w seed ∙ sym (bits-length w g);
     in-message = omega (arith, octetBits-length xs, octetBits-length es);
@@ -62,7 +62,7 @@ module _ (w g seed : ℕ) (xs es : List ℕ) (c : ℕ) (hg : g < 2 ^ w) (hs : se
   detects = Iff·trans as-bits (bitwise.detects flips)
 
   -- Flips within w neighbouring bits pass only if there are none.
-  pub burst-detected : EndsInOne (bits w g) → (i : ℕ) → Within i w (octetBits es ++ bits w c) → arrives → ones (octetBits es ++ bits w c) ≡ 0
+  pub burst-detected : EndsInOne (bits w g) → (i : ℕ) → Burst i w (octetBits es ++ bits w c) → arrives → ones (octetBits es ++ bits w c) ≡ 0
   burst-detected h i within p = multiple-burst (bits w g) h i (rw bits-length within) (detects .0 p)
 
   -- An odd number of flips never passes.

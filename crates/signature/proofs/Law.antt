@@ -62,7 +62,7 @@ module _ (w g n k : ℕ) (wide : w ≡ n + k) (hg : g < 2 ^ w) where
         bits-xor w (division w g n i) (r * 2 ^ n % 2 ^ w),
       )
 
-  pub look : {table : List ℕ} (r x : ℕ) → Table w g n table → shiftInAll w g r (bits n x) < 2 ^ w
+  look : {table : List ℕ} (r x : ℕ) → Table w g n table → shiftInAll w g r (bits n x) < 2 ^ w
       → lookUp w n table r x ≡ shiftInAll w g r (bits n x)
   unfolding division
   look r x t fits =

@@ -2,3 +2,4 @@ pub mod Bridge
 pub mod Table
 pub mod Law
 pub mod Detect
+pub mod Arises

@@ -8,12 +8,13 @@ use Prim.Native.Nat.{ℕ, _%_}
 use borrow.Author.Tests.{eq-eqb}
 use lib.Dec.{eqb}
 use lib.ListN.{length}
-use Rattle.gf2.specs.Polynomial.{Multiple, ones, Within}
+use Rattle.gf2.specs.Polynomial.{Multiple, ones, Burst}
 use Rattle.gf2.specs.Bits.{bits, octetBits}
+use Rattle.block.specs.Octets.{Octets}
 use Rattle.block.specs.declared.Params.{Params}
 use Rattle.spdu.specs.Signature.{widthOf, generatorOf, byBits}
 use Rattle.spdu.specs.Fields.{responseBy, requestBy}
-use Rattle.spdu.specs.Flips.{Octets, validSpdu, flippedSpdu, Premises}
+use Rattle.spdu.specs.Flips.{validSpdu, flippedSpdu, Premises}
 use Rattle.spdu.proofs.Numbers.{flipped-length}
 use Rattle.spdu.proofs.Demand3.{none-passes, exact, burst, odd}
 
@@ -37,7 +38,7 @@ module _ (p : Params) (process : List ℕ) (port control : ℕ) (es : List ℕ) 
     response-exact met = simp (whole size) (exact met)
 
     -- no nonempty flip set within 16 (32) neighbouring bits leaves it set
-    pub response-burst : Premises mode process port control es → (i : ℕ) → Within i (widthOf mode) (octetBits es)
+    pub response-burst : Premises mode process port control es → (i : ℕ) → Burst i (widthOf mode) (octetBits es)
         → responseBy byBits p (flippedSpdu mode process port control es) .«signature_holds» ≡ true → ones (octetBits es) ≡ 0
     response-burst met i within h = burst met i within (simp (whole size) at h)
 
@@ -57,7 +58,7 @@ module _ (p : Params) (process : List ℕ) (port control : ℕ) (es : List ℕ) 
         ↔ Multiple (bits (widthOf mode) (generatorOf mode)) (octetBits es)
     request-exact met = simp (whole size) (exact met)
 
-    pub request-burst : Premises mode process port control es → (i : ℕ) → Within i (widthOf mode) (octetBits es)
+    pub request-burst : Premises mode process port control es → (i : ℕ) → Burst i (widthOf mode) (octetBits es)
         → requestBy byBits p (flippedSpdu mode process port control es) .«signature_holds» ≡ true → ones (octetBits es) ≡ 0
     request-burst met i within h = burst met i within (simp (whole size) at h)
 

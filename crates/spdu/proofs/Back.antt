@@ -1,7 +1,7 @@
 -- Reading after building gives back what was built, the signature holds, and not every octet is zero (R2, R5, R8); what the zeros sent before the
 -- first response read as (R23). Assumes nothing.
 use mathlib.Core.Path.{_≡_, refl, sym, ap, _∙_}
-use mathlib.Core.Bool.{Bool, true, false, cond}
+use mathlib.Core.Bool.{Bool, true, false, cond, and-eq-true-iff}
 use mathlib.Core.List.{List, [], _∷_}
 use Prim.Native.Nat.{ℕ, zero, suc, _+_}
 use native.Mathlib.Omega.{arith}
@@ -16,7 +16,6 @@ use Rattle.spdu.specs.Places.{processOctets, portOf, contentsOf, carried
 use Rattle.spdu.specs.Fields.{countIn, bit2, bit1, bit0, responseBy, requestBy}
 use Rattle.spdu.specs.Built.{controlOctet, statusOctet, spduWith}
 use Rattle.spdu.specs.RoundTrip.{requestBack, responseBack, zerosBack}
-use Rattle.spdu.proofs.Buffers.{and-parts}
 use Rattle.spdu.proofs.Composed.{spdu-length}
 use Rattle.spdu.proofs.ReadBack.{read-port, read-control, control-count, control-bit1, control-bit0, status-count, status-bit2, status-bit1, status-bit0}
 use Rattle.spdu.proofs.Demand3.{valid-passes}
@@ -24,8 +23,8 @@ use Rattle.spdu.proofs.Demand3.{valid-passes}
 -- ---- zeros
 zero-at : (s : List ℕ) → allZero s ≡ true → (k : ℕ) → getD s k 0 ≡ 0
 zero-at [] h k = refl
-zero-at (x ∷ s) h zero = eqb-true x 0 (and-parts (eqb x 0) (allZero s) h .0)
-zero-at (x ∷ s) h (suc k) = zero-at s (and-parts (eqb x 0) (allZero s) h .1) k
+zero-at (x ∷ s) h zero = eqb-true x 0 (and-eq-true-iff (eqb x 0) (allZero s) .0 h .0)
+zero-at (x ∷ s) h (suc k) = zero-at s (and-eq-true-iff (eqb x 0) (allZero s) .0 h .1) k
 
 zero-carried : (mode : ℕ) (s : List ℕ) → allZero s ≡ true → carriedOf mode s ≡ 0
 zero-carried mode s z = by (eqb mode 1) (processOctets mode (length s) + 2)

@@ -1,6 +1,6 @@
 -- Zeros, and what it says that the buffers have the right lengths. Assumes nothing.
 use mathlib.Core.Path.{_≡_, refl, sym, ap, ap₂, _∙_}
-use mathlib.Core.Bool.{Bool, true, false, cond, _&&_}
+use mathlib.Core.Bool.{Bool, true, false, cond, _&&_, and-eq-true-iff}
 use mathlib.Core.List.{List, _∷_, _++_, append-nil}
 use Prim.Native.Nat.{ℕ, zero, suc, _+_, _-_, _≤_, _<_}
 use native.Mathlib.Nat.{le-of-suc-le-suc, not-suc-le-zero}
@@ -43,10 +43,6 @@ either a b c d f g = by (eqb a b) refl
     by true e = sym (eq-eqb c d (f (eqb-true a b e)))
     by false e = sym (ne-eqb c d (λ q. eqb-false a b e (g q)))
 
-pub and-parts : (a b : Bool) → (a && b) ≡ true → (a ≡ true) × (b ≡ true)
-and-parts true b e = (refl, e)
-and-parts false b e = let z : _≡_ {A = Bool} false true = e in (z, cc)
-
 module _ (mode spdu process out : ℕ) where
   pub too-short : spdu < safetyOctets mode → false ≡ buffersHold mode spdu process out
   too-short h = sym (ap (λ (b : Bool). b && eqb out spdu) (ne-eqb (process + safetyOctets mode) spdu (λ e. omega arith)))
@@ -55,11 +51,11 @@ module _ (mode spdu process out : ℕ) where
   long-enough h = ap (λ (b : Bool). b && eqb out spdu) (either process (spdu - safetyOctets mode) (process + safetyOctets mode) spdu (λ e. omega arith) (λ e. omega arith))
 
   pub at-most : spdu ≤ 255 → (eqb process (spdu - safetyOctets mode) && eqb out spdu) ≡ true → out ≤ 255
-  at-most h e = omega (arith, eqb-true out spdu (and-parts (eqb process (spdu - safetyOctets mode)) (eqb out spdu) e .1))
+  at-most h e = omega (arith, eqb-true out spdu (and-eq-true-iff (eqb process (spdu - safetyOctets mode)) (eqb out spdu) .0 e .1))
 
   pub held : buffersHold mode spdu process out ≡ true → (out ≡ process + safetyOctets mode) × (out ≡ spdu)
   held e =
-      let p = and-parts (eqb (process + safetyOctets mode) spdu) (eqb out spdu) e in
+      let p = and-eq-true-iff (eqb (process + safetyOctets mode) spdu) (eqb out spdu) .0 e in
       let a = eqb-true (process + safetyOctets mode) spdu (p .0) in
       let b = eqb-true out spdu (p .1) in
       (omega arith, b)

@@ -1,6 +1,6 @@
 -- The composed image: the SPDU in its place, and the other data behind it. Assumes nothing.
 use mathlib.Core.Path.{_≡_, refl, sym, ap, ap₂, _∙_}
-use mathlib.Core.Bool.{Bool, true, false, cond, _&&_}
+use mathlib.Core.Bool.{Bool, true, false, cond, _&&_, and-eq-true-iff}
 use mathlib.Core.List.{List, [], _∷_, _++_}
 use Prim.Native.Nat.{ℕ, _+_, _-_, _/_, _%_, _≤_}
 use native.Mathlib.Omega.{arith}
@@ -14,7 +14,6 @@ use Rattle.block.specs.declared.Params.{Params}
 use Rattle.spdu.specs.Signature.{replaced}
 use Rattle.spdu.specs.Built.{controlOctet, signatureOctets, contentsWith, spduWith, processSent, requestBuilt}
 use Rattle.spdu.specs.Image.{composerHolds, composed}
-use Rattle.spdu.proofs.Buffers.{and-parts}
 use Rattle.spdu.proofs.Join.{joined}
 
 -- an SPDU is as long as its process octets and H
@@ -41,8 +40,8 @@ module _ (sign : ℕ → List ℕ → ℕ) (p : Params) (mCount : ℕ) (setSD ch
 
   parts : (length process + safetyOctets (p .«FSP_ProtMode») ≡ o) × ((length other ≡ p .OutputDataLength) × (length image ≡ o + p .OutputDataLength))
   parts =
-      let a = and-parts (eqb (length process + safetyOctets (p .«FSP_ProtMode»)) o && eqb (length other) (p .OutputDataLength)) (eqb (length image) (o + p .OutputDataLength)) holds in
-      let b = and-parts (eqb (length process + safetyOctets (p .«FSP_ProtMode»)) o) (eqb (length other) (p .OutputDataLength)) (a .0) in
+      let a = and-eq-true-iff (eqb (length process + safetyOctets (p .«FSP_ProtMode»)) o && eqb (length other) (p .OutputDataLength)) (eqb (length image) (o + p .OutputDataLength)) .0 holds in
+      let b = and-eq-true-iff (eqb (length process + safetyOctets (p .«FSP_ProtMode»)) o) (eqb (length other) (p .OutputDataLength)) .0 (a .0) in
       (eqb-true (length process + safetyOctets (p .«FSP_ProtMode»)) o (b .0), (eqb-true (length other) (p .OutputDataLength) (b .1), eqb-true (length image) (o + p .OutputDataLength) (a .1)))
 
   pub within : o ≤ length image
@@ -57,14 +56,14 @@ module _ (sign : ℕ → List ℕ → ℕ) (p : Params) (mCount : ℕ) (setSD ch
       ap (λ (b : Bool). cond b spdu (take o image))
       (ap₂ _&&_ (eq-eqb (length process + safetyOctets (p .«FSP_ProtMode»)) o (parts .0)) (eq-eqb (length (take o image)) o (sym lent)))
 
-  pub built-length : length spdu ≡ o
+  built-length : length spdu ≡ o
   built-length = spdu-length sign (p .«FSP_ProtMode») (processSent setSD process) (p .«FSP_Port») (controlOctet mCount setSD chFAckReq) ∙ omega (arith, sent-length setSD process, parts .0)
 
   module _ (left second : List ℕ) (one : left ≡ requestBuilt sign p mCount setSD chFAckReq process (take o image)) where
     is-spdu : left ≡ spdu
     is-spdu = one ∙ built
 
-    pub left-length : length left ≡ o
+    left-length : length left ≡ o
     left-length = ap length is-spdu ∙ built-length
 
     pub first-length : length (left ++ drop o image) ≡ length image

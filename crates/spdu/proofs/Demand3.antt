@@ -10,17 +10,18 @@ use lib.Bits.{bitXor, xor-zero-r}
 use lib.Dec.{eqb, eqb·suc-zero}
 use lib.ListN.{length, take, drop, length-append, length-drop, take-append-drop}
 use lib.Seq.{getD-drop, length-take-le}
-use Rattle.gf2.specs.Polynomial.{zeros, Multiple, ones, Within}
+use Rattle.gf2.specs.Polynomial.{zeros, Multiple, ones, Burst}
 use Rattle.gf2.specs.Bits.{bits, octetBits}
 use Rattle.gf2.proofs.Bits.{bits-length, bits-injective}
 use Rattle.gf2.proofs.Product.{multiple-even, multiple-burst}
 use Rattle.signature.specs.Signature.{flipped}
 use Rattle.signature.proofs.Bridge.{signature-lt}
 use Rattle.signature.proofs.Detect.{detects}
+use Rattle.block.specs.Octets.{Octets}
 use Rattle.spdu.specs.Signature.{widthOf, generatorOf, byBits, replaced}
 use Rattle.spdu.specs.Places.{contentsOf, carriedOf, signatureHolds, allZero}
 use Rattle.spdu.specs.Built.{signatureOctets, contentsWith}
-use Rattle.spdu.specs.Flips.{Octets, validSpdu, flippedSpdu, Premises}
+use Rattle.spdu.specs.Flips.{validSpdu, flippedSpdu, Premises}
 use Rattle.spdu.proofs.Numbers.{number, number-lt, number-flipped, number-bits, flipped-length}
 use Rattle.spdu.proofs.Modes.{signing}
 use Rattle.spdu.proofs.ReadBack.{contents-of, carried-of, contents-length, built-holds}
@@ -168,7 +169,7 @@ module _ {mode : ℕ} {process : List ℕ} {port control : ℕ} {es : List ℕ} 
       (rw all-bits at (detects w g 1 contents inContents (number inSignature) (signing mode .fits) (signing mode .seed) small contents-sized))
 
   -- No nonempty flip set within 16 (32) neighbouring bits passes.
-  pub burst : (i : ℕ) → Within i (widthOf mode) (octetBits es) → signatureHolds byBits mode (flippedSpdu mode process port control es) ≡ true
+  pub burst : (i : ℕ) → Burst i (widthOf mode) (octetBits es) → signatureHolds byBits mode (flippedSpdu mode process port control es) ≡ true
       → ones (octetBits es) ≡ 0
   burst i within h = multiple-burst (bits w g) (signing mode .ends) i (rw bits-length within) (exact .0 h)
 

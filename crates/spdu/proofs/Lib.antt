@@ -13,3 +13,4 @@ pub mod Demand3
 pub mod Arrived
 pub mod Needed
 pub mod Back
+pub mod Arises

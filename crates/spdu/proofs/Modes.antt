@@ -13,10 +13,10 @@ use Rattle.gf2.specs.Bits.{bits}
 use Rattle.gf2.specs.Generators.{generator16, generator32, EndsInOne, EvenOnes}
 use Rattle.gf2.proofs.Generators.{ends16, even16, ends32, even32}
 use Rattle.ranges.specs.Fields.{safetyOctets}
+use Rattle.block.specs.Octets.{Octets}
 use Rattle.spdu.specs.Signature.{widthOf, generatorOf}
 use Rattle.spdu.specs.Places.{carriedAt}
 use Rattle.spdu.specs.Built.{signatureOctets}
-use Rattle.spdu.specs.Flips.{Octets}
 use Rattle.spdu.proofs.Numbers.{number}
 
 -- a width, a generator, H, how a signature is written as octets, and how it is read from a list at a place

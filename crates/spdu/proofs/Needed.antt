@@ -1,55 +1,31 @@
 -- Demand 3 by computed SPDUs: each premise is needed (R5a), 16 (32) neighbouring bits are the most, and the premises can be met.
 -- Assumes nothing.
 use mathlib.Core.Path.{_≡_, refl, ap}
-use mathlib.Core.Bool.{Bool, true, false, _&&_}
+use mathlib.Core.Bool.{Bool, true, false}
 use mathlib.Core.List.{List, [], _∷_}
-use Prim.Native.Nat.{ℕ, zero, suc, _+_, _-_, _≤_, _<_}
+use Prim.Native.Nat.{ℕ, _+_, _<_}
 use native.Mathlib.Omega.{arith}
-use borrow.Author.Tests.{ltb-true, leb-true, leb-false}
-use lib.Dec.{leb, ltb}
 use lib.ListN.{length, getD, take, drop}
 use lib.Pow.{areBytes}
-use lib.Seq.{getD-take, getD-drop}
-use Rattle.gf2.specs.Polynomial.{ones, Within}
+use Rattle.gf2.specs.Polynomial.{ones, Burst}
 use Rattle.gf2.specs.Bits.{octetBits}
+use Rattle.gf2.proofs.Product.{burst-by-ones}
 use Rattle.signature.specs.Signature.{signature, octet, shiftInAll, shiftIn}
+use Rattle.block.proofs.Arises.{octets-of}
 use Rattle.spdu.specs.Signature.{byBits}
 use Rattle.spdu.specs.Places.{contentsOf, signatureHolds}
 use Rattle.spdu.specs.Built.{contentsWith}
-use Rattle.spdu.specs.Flips.{Octets, validSpdu, flippedSpdu, Premises, Case}
+use Rattle.spdu.specs.Flips.{validSpdu, flippedSpdu, Flips, Premises}
 
-le-by : (i k : ℕ) → (k < i → ⊥) → i ≤ k
-le-by i k f = go (leb i k) refl
-  where
-    go : (b : Bool) → leb i k ≡ b → i ≤ k
-    go true e = leb-true i k e
-    go false e = absurd (f (leb-false i k e))
-
-counted : (e : List Bool) (k : ℕ) → getD e k false ≡ true → 0 < ones e
-counted [] k h = let z : _≡_ {A = ℕ} 0 1 = cc in absurd (omega arith)
-counted (true ∷ e) k h = omega arith
-counted (false ∷ e) zero h = let z : _≡_ {A = ℕ} 0 1 = cc in absurd (omega arith)
-counted (false ∷ e) (suc k) h = counted e k h
-
--- where no one stands before i, and none from i + n on, they are within n places from i
-within : (i n : ℕ) (e : List Bool) → ones (take i e) ≡ 0 → ones (drop (i + n) e) ≡ 0 → Within i n e
-within i n e before behind k h =
-    (le-by i k (λ l. omega (arith, counted (take i e) k (rw getD-take h))), le-by (suc k) (i + n) past)
-  where
-    past : i + n < suc k → ⊥
-    past l =
-        let m : ℕ = k - (i + n) in
-        let at : i + n + m ≡ k = omega arith in
-        omega (arith, counted (drop (i + n) e) m (rw (getD-drop, at) h))
-
-both : (a b : Bool) → (a && b) ≡ true → (a ≡ true) × (b ≡ true)
-both true b h = (refl, h)
-both false b h = let z : _≡_ {A = ℕ} 0 1 = cc in absurd (omega arith)
-
-octets-of : (es : List ℕ) → areBytes es ≡ true → Octets es
-octets-of [] h k = omega arith
-octets-of (e ∷ es) h zero = ltb-true e 256 (both (ltb e 256) (areBytes es) h .0)
-octets-of (e ∷ es) h (suc k) = octets-of es (both (ltb e 256) (areBytes es) h .1) k
+-- k flips es within n neighbouring bits; the contents compute `before`, and after the flips `later`; whether the check passes
+pub record Case (mode : ℕ) (process : List ℕ) (port control : ℕ) (es : List ℕ) (n k before later : ℕ) (passes : Bool) : Type 0 where
+  pub flips : Flips mode process port control es
+  pub first : ℕ
+  pub within : Burst first n (octetBits es)
+  pub count : ones (octetBits es) ≡ k
+  pub computed : byBits mode (contentsWith process port control) ≡ before
+  pub computed-later : byBits mode (contentsOf mode (flippedSpdu mode process port control es)) ≡ later
+  pub checked : signatureHolds byBits mode (flippedSpdu mode process port control es) ≡ passes
 
 abbrev numbers : ℕ → List ℕ → ℕ → ℕ → List ℕ → ℕ → ℕ → List ℕ
 numbers mode process port control es first n =
@@ -68,7 +44,7 @@ case : {mode : ℕ} {process : List ℕ} {port control : ℕ} {es : List ℕ} {n
 case {mode} {process} {port} {control} {es} {n} {k} {before} {later} first bytes e h = record {
   flips = record { same-length = at 0; octets = octets-of es bytes };
   first = first;
-  within = within first n (octetBits es) (at 1) (at 2);
+  within = burst-by-ones first n (octetBits es) (at 1) (at 2);
   count = at 3;
   computed = at 4;
   computed-later = at 5;
@@ -87,20 +63,20 @@ zeroShort = 0x00 ∷ 0x03 ∷ 0x3A ∷ []
 abbrev zeroLong : List ℕ
 zeroLong = 0xC0 ∷ 0x02 ∷ 0x5E ∷ 0x8D ∷ []
 
-abbrev otherShort : List ℕ
+abbrev pub otherShort : List ℕ
 otherShort = 0x01 ∷ 0x02 ∷ 0x03 ∷ []
 
 abbrev otherLong : List ℕ
 otherLong = 0x01 ∷ 0x02 ∷ 0x03 ∷ 0x04 ∷ []
 
 -- flips: the generator, its leading 1 the last bit of the control octet; and the generator without its last 1
-abbrev generatorShort : List ℕ
+abbrev pub generatorShort : List ℕ
 generatorShort = 0 ∷ 0 ∷ 0 ∷ 0 ∷ 0x01 ∷ 0x4E ∷ 0xAB ∷ []
 
 abbrev generatorLong : List ℕ
 generatorLong = 0 ∷ 0 ∷ 0 ∷ 0 ∷ 0 ∷ 0x01 ∷ 0xF4 ∷ 0xAC ∷ 0xFB ∷ 0x13 ∷ []
 
-abbrev burstShort : List ℕ
+abbrev pub burstShort : List ℕ
 burstShort = 0 ∷ 0 ∷ 0 ∷ 0 ∷ 0x01 ∷ 0x4E ∷ 0xAA ∷ []
 
 abbrev burstLong : List ℕ

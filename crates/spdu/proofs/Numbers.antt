@@ -11,7 +11,7 @@ use lib.Pow.{pow-pos, pow-add, high, low}
 use Rattle.gf2.specs.Bits.{bits, octetBits}
 use Rattle.gf2.proofs.Bits.{bits-mod, bits-parts}
 use Rattle.signature.specs.Signature.{flipped}
-use Rattle.spdu.specs.Flips.{Octets}
+use Rattle.block.specs.Octets.{Octets}
 
 abbrev pub number : List ℕ → ℕ
 number [] = 0

@@ -12,11 +12,11 @@ use lib.Dec.{eqb}
 use lib.ListN.{length, getD, take, drop, length-append, length-drop, take-append-drop}
 use lib.Seq.{take-at, getD-at, getD-append-add, getD-drop, length-take-le, take-add, drop-cons}
 use Rattle.ranges.specs.Fields.{safetyOctets}
+use Rattle.block.specs.Octets.{Octets}
 use Rattle.spdu.specs.Signature.{widthOf, replaced}
 use Rattle.spdu.specs.Places.{processOctets, processOf, portOf, controlOf, contentsOf, carriedAt, carriedOf, signatureHolds}
 use Rattle.spdu.specs.Fields.{countIn, bit2, bit1, bit0}
 use Rattle.spdu.specs.Built.{bitIn, controlOctet, statusOctet, signatureOctets, contentsWith, spduWith}
-use Rattle.spdu.specs.Flips.{Octets}
 use Rattle.spdu.proofs.Numbers.{number, number-injective}
 use Rattle.spdu.proofs.Modes.{signing}
 
@@ -64,7 +64,7 @@ module _ (sign : ℕ → List ℕ → ℕ) (mode : ℕ) (process : List ℕ) (po
       ap₂ (λ (s : List ℕ) (n : ℕ). getD s (n + 1) 0) regrouped behind
       ∙ getD-append-add process (port ∷ control ∷ signatureOctets mode value) 1 0
 
-  pub read-contents : contentsOf mode built ≡ contents
+  read-contents : contentsOf mode built ≡ contents
   read-contents =
       contents-of mode contents (signatureOctets mode value) (omega (arith, contents-length)) (signing mode .size value)
 
@@ -81,10 +81,10 @@ module _ (sign : ℕ → List ℕ → ℕ) (mode : ℕ) (process : List ℕ) (po
 
 -- a received SPDU that is not too short
 module _ (mode : ℕ) (s : List ℕ) (long : safetyOctets mode ≤ length s) where
-  abbrev pub seam : ℕ
+  abbrev seam : ℕ
   seam = processOctets mode (length s) + 2
 
-  pub contents-long : length (contentsOf mode s) ≡ seam
+  contents-long : length (contentsOf mode s) ≡ seam
   contents-long = length-take-le seam s (omega (arith, signing mode .safety))
 
   tail-long : length (drop seam s) * 8 ≡ widthOf mode
@@ -95,7 +95,7 @@ module _ (mode : ℕ) (s : List ℕ) (long : safetyOctets mode ≤ length s) whe
       rw take-append-drop at (carried-of mode (contentsOf mode s) (drop seam s) (omega (arith, contents-long)) tail-long)
 
   -- contents are process octets, port number, and control or status octet
-  pub contents-parts : contentsOf mode s ≡ contentsWith (processOf mode s) (portOf mode s) (controlOf mode s)
+  contents-parts : contentsOf mode s ≡ contentsWith (processOf mode s) (portOf mode s) (controlOf mode s)
   contents-parts =
       let n = processOctets mode (length s) in
       let one : n < length s = omega (arith, signing mode .safety) in
@@ -103,7 +103,7 @@ module _ (mode : ℕ) (s : List ℕ) (long : safetyOctets mode ≤ length s) whe
       take-add n 2 s ∙ rw (add-one, drop-cons s n 0 one, drop-cons s (suc n) 0 two)
 
 -- Two SPDUs of the same length and with the same contents, whose signatures hold, are the same.
-pub determined : (sign : ℕ → List ℕ → ℕ) (mode : ℕ) (s t : List ℕ) → Octets s → Octets t → safetyOctets mode ≤ length s
+determined : (sign : ℕ → List ℕ → ℕ) (mode : ℕ) (s t : List ℕ) → Octets s → Octets t → safetyOctets mode ≤ length s
     → length s ≡ length t → contentsOf mode s ≡ contentsOf mode t → signatureHolds sign mode s ≡ true → signatureHolds sign mode t ≡ true → s ≡ t
 determined sign mode s t hs ht long same contents ps pt =
     let longt : safetyOctets mode ≤ length t = omega arith in

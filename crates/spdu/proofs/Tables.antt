@@ -1,5 +1,5 @@
 -- Signing by tables: a message and two octets behind it; and right tables sign as bits do. Assumes nothing.
-use mathlib.Core.Path.{_≡_, refl}
+use mathlib.Core.Path.{_≡_, refl, ap, _∙_}
 use mathlib.Core.Bool.{Bool, true, false, cond}
 use mathlib.Core.List.{List, [], _∷_, _++_}
 use Prim.Native.Nat.{ℕ}
@@ -9,14 +9,21 @@ use Rattle.signature.specs.Signature.{signature}
 use Rattle.signature.specs.Lookup.{Table, lookUp, byTable}
 use Rattle.signature.proofs.Law.{look-all}
 use Rattle.spdu.specs.Signature.{byBits, byTables}
+use Rattle.spdu.specs.Built.{contentsWith}
 
-pub by-two : (w : ℕ) (t : List ℕ) (r : ℕ) (xs : List ℕ) (x y : ℕ) → lookUp w 8 t (lookUp w 8 t (byTable w t r xs) x) y ≡ byTable w t r (xs ++ (x ∷ y ∷ []))
+by-two : (w : ℕ) (t : List ℕ) (r : ℕ) (xs : List ℕ) (x y : ℕ) → lookUp w 8 t (lookUp w 8 t (byTable w t r xs) x) y ≡ byTable w t r (xs ++ (x ∷ y ∷ []))
 unfolding byTable
 by-two w t r [] x y = refl
 by-two w t r (z ∷ xs) x y = by-two w t (lookUp w 8 t r z) xs x y
 
+-- the register that is `a` after the process octets, `b` after the port number, and `c` after the control or status octet
+pub sealed : (w : ℕ) (t process : List ℕ) (port control : ℕ) {a b c : ℕ} → a ≡ byTable w t 1 process → b ≡ lookUp w 8 t a port → c ≡ lookUp w 8 t b control
+    → c ≡ byTable w t 1 (contentsWith process port control)
+sealed w t process port control first second third =
+    third ∙ ap (λ (r : ℕ). lookUp w 8 t r control) (second ∙ ap (λ (r : ℕ). lookUp w 8 t r port) first) ∙ by-two w t 1 process port control
+
 -- with the right tables lent, what is read and built is what the bit shift algorithm says
-pub right-tables : {short long : List ℕ} → Table 16 generator16 8 short → Table 32 generator32 8 long → (mode : ℕ) (contents : List ℕ)
+right-tables : {short long : List ℕ} → Table 16 generator16 8 short → Table 32 generator32 8 long → (mode : ℕ) (contents : List ℕ)
     → byTables short long mode contents ≡ byBits mode contents
 right-tables {short} {long} s l mode contents = by (eqb mode 1)
   where

@@ -1,20 +1,14 @@
 -- 01, demand 3: a valid SPDU of which some bits are flipped, and what is asked of it. A valid SPDU is its contents and the signature that the
 -- definition computes for them, zero replaced (`spduWith byBits`); the check has no part in it. Assumes nothing.
 use mathlib.Core.Path.{_≡_}
-use mathlib.Core.Bool.{Bool}
 use mathlib.Core.List.{List}
-use Prim.Native.Nat.{ℕ, _<_}
-use lib.ListN.{length, getD}
-use Rattle.gf2.specs.Polynomial.{ones, Within}
-use Rattle.gf2.specs.Bits.{octetBits}
+use Prim.Native.Nat.{ℕ}
+use lib.ListN.{length}
 use Rattle.signature.specs.Signature.{flipped}
+use Rattle.block.specs.Octets.{Octets}
 use Rattle.spdu.specs.Signature.{byBits}
-use Rattle.spdu.specs.Places.{contentsOf, signatureHolds}
+use Rattle.spdu.specs.Places.{contentsOf}
 use Rattle.spdu.specs.Built.{contentsWith, spduWith}
-
--- every element is an octet; past the end 0 is read
-abbrev pub Octets : List ℕ → Type 0
-Octets s = (k : ℕ) → getD s k 0 < 256
 
 abbrev pub validSpdu : ℕ → List ℕ → ℕ → ℕ → List ℕ
 validSpdu mode process port control = spduWith byBits mode process port control
@@ -34,13 +28,3 @@ pub record Premises (mode : ℕ) (process : List ℕ) (port control : ℕ) (es :
   pub flips : Flips mode process port control es
   pub before : byBits mode (contentsWith process port control) ≡ 0 → ⊥
   pub after : byBits mode (contentsOf mode (flippedSpdu mode process port control es)) ≡ 0 → ⊥
-
--- A computed case: k flips es within n neighbouring bits; the contents compute `before`, and after the flips `later`; whether the check passes.
-pub record Case (mode : ℕ) (process : List ℕ) (port control : ℕ) (es : List ℕ) (n k before later : ℕ) (passes : Bool) : Type 0 where
-  pub flips : Flips mode process port control es
-  pub first : ℕ
-  pub within : Within first n (octetBits es)
-  pub count : ones (octetBits es) ≡ k
-  pub computed : byBits mode (contentsWith process port control) ≡ before
-  pub computed-later : byBits mode (contentsOf mode (flippedSpdu mode process port control es)) ≡ later
-  pub checked : signatureHolds byBits mode (flippedSpdu mode process port control es) ≡ passes

@@ -1,4 +1,5 @@
--- A recording: SPDUs of n octets each, one behind the other, the first first. Octets at its end that fill no SPDU belong to none. Assumes nothing.
+-- A recording, a form of our own (docs/DECISIONS.md): SPDUs of n octets each, one behind the other, the first first. Octets at its end that fill no
+-- SPDU belong to none. Assumes nothing.
 use Prim.Native.Nat.{ℕ, zero, suc, _+_, _*_, _/_}
 use mathlib.Core.Bool.{cond}
 use mathlib.Core.List.{List}

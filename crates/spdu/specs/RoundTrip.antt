@@ -1,4 +1,5 @@
--- What is read at the other end of the same parameters: of an SPDU that was built, and of the zeros before the first response. Assumes nothing.
+-- What is read at the other end of the same parameters: of an SPDU that was built (000 11.4.4 to 11.4.7, Tables 31 and 32), and of the zeros before the
+-- first response (R23). Assumes nothing.
 use Prim.Native.Nat.{ℕ, _%_}
 use mathlib.Core.Bool.{Bool, true, false}
 use lib.Dec.{eqb}

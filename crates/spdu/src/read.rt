@@ -3,10 +3,10 @@ ghost use mathlib.Core.Path.{_≡_};
 ghost use Prim.Native.Nat.{_+_, _≤_};
 ghost use lib.ListN.{getD, take, length};
 ghost use Rattle.spdu.specs.Signature.{byTables, replaced};
-ghost use Rattle.block.specs.Octets as octets;
 ghost use Rattle.spdu.specs.Places as places;
 ghost use Rattle.spdu.specs.Fields as fields;
 use block::Params;
+use block::word;
 use scl::Request;
 use scl::Response;
 
@@ -45,12 +45,6 @@ pub(crate) fn replace(x: u32) -> u32
     ensures { λ r. ⌜ r ≡ replaced x ⌝ }
 {
     if x == 0 { 1 } else { x }
-}
-
-pub(crate) fn word(a: u8, b: u8) -> u16
-    ensures { λ r. ⌜ r ≡ octets.word a b ⌝ }
-{
-    a as u16 * 256 + b as u16
 }
 
 // The signature that an SPDU carries, from `at` on: 2 behind the process octets, of which there are at most 255, so that no place overflows.

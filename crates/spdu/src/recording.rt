@@ -9,7 +9,7 @@ ghost use Rattle.spdu.specs.Signature.{byTables};
 ghost use Rattle.spdu.specs.Places.{signatureHolds};
 ghost use Rattle.spdu.specs.Recording.{signaturesHeld};
 use crate::read::replace;
-use crate::read::word;
+use block::word;
 
 // Of an SPDU that has all safety octets: no place is past its end, so none is tested.
 fn short_holds(short: &[u16; 256], s: &[u8]) -> bool

@@ -1,13 +1,12 @@
 -- `spdu::build::seal` meets its contract. Assumes nothing.
 use mathlib.Core.Path.{sym, ap, _∙_}
 use mathlib.Core.Bool.{Bool, cond}
-use Prim.Native.Nat.{ℕ}
 use borrow.Author.Needs.{needs}
 use borrow.Author.Tests.{eq-eqb, ne-eqb}
-use Rattle.signature.specs.Lookup.{lookUp, byTable}
+use Rattle.signature.specs.Lookup.{byTable}
 use Rattle.spdu.specs.Signature.{replaced}
 use Rattle.spdu.specs.Built.{contentsWith}
-use Rattle.spdu.proofs.Tables.{by-two}
+use Rattle.spdu.proofs.Tables.{sealed}
 use Rattle.spdu.proofs.build.seal.Statement.{statement}
 use Rattle.spdu.proofs.build.seal.Tie as tie
 
@@ -20,9 +19,7 @@ returns c =
     let t = args .short .now in
     c .replace .ensures
     ∙ ap replaced
-    (c1 .step16-by2 .ensures
-    ∙ ap (λ (r : ℕ). lookUp 16 8 t r (args .control)) (c2 .step16-by .ensures ∙ ap (λ (r : ℕ). lookUp 16 8 t r (args .port)) (c3 .signature16-by .ensures))
-    ∙ by-two 16 t 1 (args .process .now) (args .port) (args .control)
+    (sealed 16 t (args .process .now) (args .port) (args .control) (c3 .signature16-by .ensures) (c2 .step16-by .ensures) (c1 .step16-by2 .ensures)
     ∙ ap (λ (b : Bool). byTable (cond b 16 32) (cond b t (args .long .now)) 1 (contentsWith (args .process .now) (args .port) (args .control))) (sym (eq-eqb (args .mode) 1 (c3 .before .if1 .taken))))
 
 returns-2 : tie.Need-returns-2
@@ -34,9 +31,7 @@ returns-2 c =
     let t = args .long .now in
     c .replace2 .ensures
     ∙ ap replaced
-    (c1 .step32-by2 .ensures
-    ∙ ap (λ (r : ℕ). lookUp 32 8 t r (args .control)) (c2 .step32-by .ensures ∙ ap (λ (r : ℕ). lookUp 32 8 t r (args .port)) (c3 .signature32-by .ensures))
-    ∙ by-two 32 t 1 (args .process .now) (args .port) (args .control)
+    (sealed 32 t (args .process .now) (args .port) (args .control) (c3 .signature32-by .ensures) (c2 .step32-by .ensures) (c1 .step32-by2 .ensures)
     ∙ ap (λ (b : Bool). byTable (cond b 16 32) (cond b (args .short .now) t) 1 (contentsWith (args .process .now) (args .port) (args .control))) (sym (ne-eqb (args .mode) 1 (c3 .before .if1 .left))))
 
 pub seal-spec : {M : Type 1} → statement M

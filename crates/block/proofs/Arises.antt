@@ -1,0 +1,90 @@
+-- Every answer to a block arises, and so the premises of `given`, `taken`, `taken-params` and `accepted` can be met: computed. Assumes nothing.
+use mathlib.Core.Path.{_≡_, refl}
+use mathlib.Core.Bool.{true, and-eq-true-iff}
+use mathlib.Core.List.{List, [], _∷_, map}
+use Prim.Native.Nat.{ℕ, zero, suc}
+use native.Mathlib.Omega.{arith}
+use borrow.Author.Tests.{ltb-true}
+use lib.Dec.{ltb, lit<}
+use lib.ListN.{drop, set}
+use lib.Pow.{areBytes}
+use Rattle.answer.specs.Answers.{numberOf, offsetOf}
+use Rattle.answer.specs.Rules.{First, Kept}
+use Rattle.signature.specs.Signature.{shiftIn, shiftInAll, octet, signature}
+use Rattle.block.specs.Octets.{Octets}
+use Rattle.block.specs.Table22.{paramsOf}
+use Rattle.block.specs.Rules.{rulesOn, judged}
+use Rattle.block.specs.Accepted.{Accepted}
+use Rattle.block.proofs.Answered.{given, taken, taken-params}
+use Rattle.block.proofs.Bounds.{accepted}
+
+pub octets-of : (s : List ℕ) → areBytes s ≡ true → Octets s
+octets-of [] h k = omega arith
+octets-of (x ∷ s) h zero = ltb-true x 256 (and-eq-true-iff (ltb x 256) (areBytes s) .0 h .0)
+octets-of (x ∷ s) h (suc k) = octets-of s (and-eq-true-iff (ltb x 256) (areBytes s) .0 h .1) k
+
+-- SAFETYCOM at port 1 with the short signature: no other data, and one octet of bits each way
+abbrev pub good : List ℕ
+good =
+    -- ArgBlockID, PortMode, Validation&Backup, I/Q behavior, PortCycleTime, VendorID, DeviceID, InputDataLength, OutputDataLength
+    0x80 ∷ 0x01 ∷ 49 ∷ 0 ∷ 0 ∷ 0 ∷ 0 ∷ 1 ∷ 0 ∷ 0 ∷ 0 ∷ 1 ∷ 0 ∷ 0
+    -- FSCP_Authenticity1, FSCP_Authenticity2, FSP_Port, FSP_AuthentCRC
+    ∷ 0 ∷ 0 ∷ 0 ∷ 0 ∷ 0 ∷ 0 ∷ 0 ∷ 0 ∷ 1 ∷ 0x4E ∷ 0xAB
+    -- FSP_ProtVersion, FSP_ProtMode, FSP_WatchdogTime, FSP_IO_StructCRC, FSP_TechParCRC, FSP_ProtParCRC
+    ∷ 1 ∷ 1 ∷ 0 ∷ 100 ∷ 0xA3 ∷ 0xEA ∷ 0 ∷ 0 ∷ 0 ∷ 0 ∷ 0x6A ∷ 0xF9
+    -- IO_DescVersion, and of each direction the SPDU's length, bits, octets and integers
+    ∷ 1 ∷ 5 ∷ 8 ∷ 1 ∷ 0 ∷ 0 ∷ 5 ∷ 1 ∷ 1 ∷ 0 ∷ 0 ∷ []
+
+-- the answer's number and offset
+abbrev answered : List ℕ → ℕ → ℕ × ℕ
+answered s port = let a = judged s port .answer in (numberOf a, offsetOf a)
+
+-- the good block, and for each rule, in their order, one that breaks it; and the answer
+abbrev rows : List ((ℕ × ℕ) × (ℕ × ℕ))
+rows =
+    (answered good 1, (0, 0))
+    ∷ (answered good 9, (8, 0))
+    ∷ (answered (drop 1 good) 1, (1, 0))
+    ∷ (answered (set good 0 0) 1, (2, 0))
+    ∷ (answered (set good 2 5) 1, (3, 0))
+    ∷ (answered (set good 2 51) 1, (4, 0))
+    ∷ (answered (set good 3 5) 1, (5, 3))
+    ∷ (answered (set good 4 1) 1, (5, 4))
+    ∷ (answered (set good 7 0) 1, (5, 6))
+    ∷ (answered (set good 11 0) 1, (5, 8))
+    ∷ (answered (set good 12 64) 1, (5, 12))
+    ∷ (answered (set good 13 64) 1, (5, 13))
+    ∷ (answered (set good 22 0) 1, (5, 22))
+    ∷ (answered (set good 25 0) 1, (5, 25))
+    ∷ (answered (set good 26 3) 1, (5, 26))
+    ∷ (answered (set good 28 0) 1, (5, 27))
+    ∷ (answered (set good 37 0) 1, (5, 37))
+    ∷ (answered (set good 38 6) 1, (5, 38))
+    ∷ (answered (set good 39 9) 1, (5, 39))
+    ∷ (answered (set good 43 6) 1, (5, 43))
+    ∷ (answered (set good 44 9) 1, (5, 44))
+    ∷ (answered good 2, (12, 0))
+    ∷ (answered (set good 14 1) 1, (6, 23))
+    ∷ (answered (set good 39 7) 1, (6, 29))
+    ∷ (answered (set good 31 1) 1, (6, 35))
+    ∷ []
+
+pub each-answer : map (λ row. row .0) rows ≡ map (λ row. row .1) rows
+unfolding signature octet shiftInAll shiftIn
+each-answer = refl
+
+pub given-met : First (rulesOn (set good 28 0) 1) 14
+unfolding signature octet shiftInAll shiftIn
+given-met = given (set good 28 0) 1 14 (lit< tt) .0 refl
+
+pub taken-met : Kept (rulesOn good 1)
+unfolding signature octet shiftInAll shiftIn
+taken-met = taken good 1 .0 refl
+
+pub taken-params-met : judged good 1 .params ≡ paramsOf good
+unfolding signature octet shiftInAll shiftIn
+taken-params-met = taken-params good 1 refl
+
+pub accepted-met : Accepted 1 (judged good 1 .params)
+unfolding signature octet shiftInAll shiftIn
+accepted-met = accepted good 1 (octets-of good refl) refl
