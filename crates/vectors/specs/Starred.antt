@@ -2,23 +2,22 @@
 use mathlib.Core.Path.{_≡_}
 use mathlib.Core.List.{List, [], _∷_, map}
 use Prim.Native.Nat.{ℕ}
-use Rattle.gf2.specs.Generators.{generator16, generator32}
-use Rattle.signature.specs.Lookup.{division}
+use lib.ListN.{getD}
 use Rattle.histogram.specs.Samples.{binOf}
 use Rattle.scl.specs.Time.{elapsedOf}
 
--- what our definitions give, and what the paper says
-unfoldable pub rows : List (ℕ × ℕ)
-rows =
+-- what the two tables and our definitions give, and what the paper says
+unfoldable pub rows : List ℕ → List ℕ → List (ℕ × ℕ)
+rows short long =
     -- short table: entry 0 is 0, 1 is 0x4EAB, 2 is 0x9D56, 3 is 0xD3FD, 4 is 0x7407
-    (division 16 generator16 8 0, 0)
-    ∷ (division 16 generator16 8 1, 0x4EAB)
-    ∷ (division 16 generator16 8 2, 0x9D56)
-    ∷ (division 16 generator16 8 3, 0xD3FD)
-    ∷ (division 16 generator16 8 4, 0x7407)
+    (getD short 0 0, 0)
+    ∷ (getD short 1 0, 0x4EAB)
+    ∷ (getD short 2 0, 0x9D56)
+    ∷ (getD short 3 0, 0xD3FD)
+    ∷ (getD short 4 0, 0x7407)
     -- long table: entry 1 is 0xF4ACFB13, entry 2 is 0x1DF50D35
-    ∷ (division 32 generator32 8 1, 0xF4ACFB13)
-    ∷ (division 32 generator32 8 2, 0x1DF50D35)
+    ∷ (getD long 1 0, 0xF4ACFB13)
+    ∷ (getD long 2 0, 0x1DF50D35)
     -- W 99: t 3 is bin 0, t 4 is bin 1, t 99 is bin 31; W 1: t 1 is bin 16; W 65535: t 65535 is bin 31
     ∷ (binOf 99 3, 0)
     ∷ (binOf 99 4, 1)
