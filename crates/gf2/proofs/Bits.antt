@@ -72,7 +72,7 @@ bits-moved k n x =
     (sym (rw zero-add at (bits-mod 0 n (x * 2 ^ n))) ∙ ap (bits n) (mul-mod-left x (2 ^ n)) ∙ bits-zero n)
 
 -- the number that a list of bits stands for
-abbrev pub number : List Bool → ℕ
+abbrev number : List Bool → ℕ
 number [] = 0
 number (b ∷ a) = cond b 1 0 * 2 ^ length a + number a
 
@@ -81,7 +81,7 @@ digit zero h = refl
 digit (suc zero) h = refl
 digit (suc (suc n)) h = absurd (omega arith)
 
-pub number-bits : (w x : ℕ) → number (bits w x) ≡ x % 2 ^ w
+number-bits : (w x : ℕ) → number (bits w x) ≡ x % 2 ^ w
 number-bits zero x = sym (mod-one x)
 number-bits (suc w) x =
     let e : 1 + w ≡ suc w = omega arith in

@@ -26,31 +26,6 @@ ones-zeros : (n : ℕ) → ones (zeros n) ≡ 0
 ones-zeros zero = refl
 ones-zeros (suc n) = ones-zeros n
 
--- ---- a burst, by counts of ones that antt computes
-some-one : (e : List Bool) (k : ℕ) → getD e k false ≡ true → 0 < ones e
-some-one [] k h = absurd (false≢true h)
-some-one (true ∷ e) k h = omega arith
-some-one (false ∷ e) zero h = absurd (false≢true h)
-some-one (false ∷ e) (suc k) h = some-one e k h
-
-at-least : (i k : ℕ) → (k < i → ⊥) → i ≤ k
-at-least i k f = go (leb i k) refl
-  where
-    go : (b : Bool) → leb i k ≡ b → i ≤ k
-    go true e = leb-true i k e
-    go false e = absurd (f (leb-false i k e))
-
--- where no one stands before i, and none from i + n on, they stand within n places from i
-pub burst-by-ones : (i n : ℕ) (e : List Bool) → ones (take i e) ≡ 0 → ones (drop (i + n) e) ≡ 0 → Burst i n e
-burst-by-ones i n e before behind k h =
-    (at-least i k (λ l. omega (arith, some-one (take i e) k (rw getD-take h))), at-least (suc k) (i + n) past)
-  where
-    past : i + n < suc k → ⊥
-    past l =
-        let m : ℕ = k - (i + n) in
-        let at : i + n + m ≡ k = omega arith in
-        omega (arith, some-one (drop (i + n) e) m (rw (getD-drop, at) h))
-
 module _ (g : List Bool) where
   pub product-cons : (a : Bool) (q : List Bool) → product g (a ∷ q) ≡ a ∷ (scale a g ⊕ product g q)
   product-cons true q = refl
@@ -157,3 +132,28 @@ module _ (g : List Bool) where
       moved : (n : ℕ) → product g (zeros n ++ (true ∷ zeros j)) ≡ zeros n ++ ((true ∷ g) ++ zeros j)
       moved zero = product-one j
       moved (suc n) = product-zero (zeros n ++ (true ∷ zeros j)) ∙ ap (_∷_ false) (moved n)
+
+-- ---- a burst, by counts of ones that antt computes
+some-one : (e : List Bool) (k : ℕ) → getD e k false ≡ true → 0 < ones e
+some-one [] k h = absurd (false≢true h)
+some-one (true ∷ e) k h = omega arith
+some-one (false ∷ e) zero h = absurd (false≢true h)
+some-one (false ∷ e) (suc k) h = some-one e k h
+
+at-least : (i k : ℕ) → (k < i → ⊥) → i ≤ k
+at-least i k f = go (leb i k) refl
+  where
+    go : (b : Bool) → leb i k ≡ b → i ≤ k
+    go true e = leb-true i k e
+    go false e = absurd (f (leb-false i k e))
+
+-- where no one stands before i, and none from i + n on, they stand within n places from i
+pub burst-by-ones : (i n : ℕ) (e : List Bool) → ones (take i e) ≡ 0 → ones (drop (i + n) e) ≡ 0 → Burst i n e
+burst-by-ones i n e before behind k h =
+    (at-least i k (λ l. omega (arith, some-one (take i e) k (rw getD-take h))), at-least (suc k) (i + n) past)
+  where
+    past : i + n < suc k → ⊥
+    past l =
+        let m : ℕ = k - (i + n) in
+        let at : i + n + m ≡ k = omega arith in
+        omega (arith, some-one (drop (i + n) e) m (rw (getD-drop, at) h))
