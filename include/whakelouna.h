@@ -182,7 +182,7 @@ struct whakelouna_bench {
 
 // The number and the offset of 01's answer; for each end what is handed on and whether it releases after the call. Handed on are: 0 the process
 // octets of the SPDU that came, all but its last 4 with FSP_ProtMode 1, all but its last 6 with 2; 1 nothing, as release goes on; 2 the safe
-// values lent; 3 nothing. In a refusal and in a parameter block: 3, and not released.
+// values lent; 3 nothing. `whakelouna_handed_on` copies them. In a refusal and in a parameter block: 3, and not released.
 struct whakelouna_reply {
     uint8_t number, offset, master, device;
     bool master_releases, device_releases;
@@ -198,6 +198,12 @@ struct whakelouna_bench_told {
 struct whakelouna_split_told {
     uint8_t number;
     size_t spdu, other;
+};
+
+// How many octets were handed on; 0 in a refusal.
+struct whakelouna_handed_told {
+    uint8_t number;
+    size_t octets;
 };
 
 // What a port shows beside the answer's number; in a refusal, what a port that never ran shows.
@@ -244,6 +250,13 @@ uint8_t whakelouna_build_response(struct whakelouna_bench bench, uint8_t port, c
 
 // The FS-Master's incoming image.
 struct whakelouna_split_told whakelouna_split(struct whakelouna_bench bench, uint8_t port, const uint8_t *octets, size_t length);
+
+// What a call handed on, by a mark of its reply, `master` with what was lent for the FS-Master and `device` with what was lent for the FS-Device: copied
+// to the front of `out`, which overlaps with nothing else that is passed. Of mark 0 the process octets of `spdu`, of 2 all of `safe`, of any other
+// nothing; `spdu` is looked at with mark 0 alone. Where `out` has fewer octets than that it writes nothing and answers 7. 25 octets have room for any
+// SPDU's process octets.
+struct whakelouna_handed_told whakelouna_handed_on(struct whakelouna_bench bench, uint8_t port, uint8_t mark,
+    const uint8_t *spdu, size_t spdu_length, const uint8_t *safe, size_t safe_length, uint8_t *out, size_t out_length);
 
 // What a port shows.
 struct whakelouna_trend whakelouna_trend(struct whakelouna_bench bench, uint8_t port);

@@ -381,6 +381,11 @@ fn finish(mut pair: Pair) {
         println!("bench: answer {number} given {count} times");
         pair.comparisons.compare(true, count > 0, || format!("answer {number} was given"));
     }
+    for number in [0, 7, 8, 9] {
+        let count = pair.copies[number];
+        println!("bench: {number} answered {count} times to octets handed on");
+        pair.comparisons.compare(true, count > 0, || format!("answer {number} to octets"));
+    }
     for row in ROWS {
         let count = pair.rows[row];
         println!("bench: T{row} taken {count} times");

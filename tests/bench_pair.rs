@@ -5,6 +5,7 @@ use crate::as_model::{device_read, master_read, point_read, port_read};
 use crate::comparisons::Comparisons;
 use crate::library::{self, Bench, BenchTold, ReplyTold};
 use crate::model::bench::{BenchModel, Reply, Shown};
+use crate::model::spdu::Direction;
 use crate::random::Random;
 
 /// The octets on either side of a buffer that is written.
@@ -20,6 +21,8 @@ pub struct Pair {
     /// How often each number was answered, 13 being a session's alone, and how often each row was taken.
     pub answers: [u64; 13],
     pub rows: [u64; 32],
+    /// How often each number was answered where handed on octets were copied.
+    pub copies: [u64; 13],
 }
 
 /// A buffer with octets on either side of the part that is lent.
@@ -61,6 +64,7 @@ impl Pair {
             calls: 0,
             answers: [0; 13],
             rows: [0; 32],
+            copies: [0; 13],
         }
     }
 
@@ -121,7 +125,15 @@ impl Pair {
         self.answers[usize::from(number)] += 1;
     }
 
-    fn follow(&mut self, call: &str, port: u8, expected: Reply, told: BenchTold) -> Reply {
+    /// `lent` are the SPDU and the safe values of the FS-Master, then those of the FS-Device.
+    fn follow(
+        &mut self,
+        call: &str,
+        port: u8,
+        expected: Reply,
+        told: BenchTold,
+        lent: [[&[u8]; 2]; 2],
+    ) -> Reply {
         self.count(expected.number);
         self.compare(call, port, expected, reply_read(&told.reply));
         if expected.number == 0 {
@@ -130,37 +142,69 @@ impl Pair {
         self.compare_bench(call, port, &told.bench);
         self.compare_untouched(call, port, expected.number, &told.bench);
         self.bench = told.bench;
+        for (end, mark) in [told.reply.master, told.reply.device].into_iter().enumerate() {
+            let handed_on = self.model.handed_on[end].clone();
+            self.handed_on(call, port, mark, lent[end], &handed_on);
+        }
+        let no_mark = 4 + (self.calls % 252) as u8;
+        self.handed_on(call, port, no_mark, lent[0], &[]);
         expected
+    }
+
+    /// The part that a call with this mark handed on, copied to a buffer of its length, to longer ones and to a shorter one.
+    fn handed_on(&mut self, call: &str, port: u8, mark: u8, lent: [&[u8]; 2], part: &[u8]) {
+        let length = part.len();
+        let room = [length, length + 3, length.saturating_sub(1), 40][self.calls as usize % 4];
+        let mut octets: Vec<u8> = (0..room + 2 * GUARD).map(|place| (11 + 5 * place) as u8).collect();
+        let inside = GUARD..GUARD + room;
+        let (number, count, later) = self.model.copied(port, part, &octets[inside.clone()]);
+        let whole = [&octets[..GUARD], &later, &octets[inside.end..]].concat();
+        let [spdu, safe] = lent;
+        let told =
+            library::handed_on(&self.bench, port, mark, spdu, safe, &mut octets[inside.clone()]);
+        self.copies[usize::from(number)] += 1;
+        let place = format!("handed_on after {call}, mark {mark}");
+        self.compare(&place, port, (number, count, whole), (told.number, told.octets, octets));
+    }
+
+    /// Zeros of the right length at a port that runs, for the end whose safe values a call does not take.
+    fn zeros(&self, port: u8, direction: Direction) -> Vec<u8> {
+        self.model
+            .format(port, direction)
+            .map_or(vec![], |format| vec![0; usize::from(format.length) - format.safety_octets()])
     }
 
     pub fn set_parameters(&mut self, port: u8, at: u32, octets: &[u8]) -> Reply {
         let expected = self.model.set_parameters(port, at, octets);
         let told = library::set_parameters(&self.bench, port, at, octets);
-        self.follow("set_parameters", port, expected, told)
+        self.follow("set_parameters", port, expected, told, [[&[]; 2]; 2])
     }
 
     pub fn receive_response(&mut self, port: u8, at: u32, spdu: &[u8], safe: &[u8]) -> Reply {
         let expected = self.model.receive_response(port, at, spdu, safe);
         let told = library::receive_response(&self.bench, port, at, spdu, safe);
-        self.follow("receive_response", port, expected, told)
+        let zeros = self.zeros(port, Direction::Request);
+        self.follow("receive_response", port, expected, told, [[spdu, safe], [&[], &zeros]])
     }
 
     pub fn receive_request(&mut self, port: u8, at: u32, spdu: &[u8], safe: &[u8]) -> Reply {
         let expected = self.model.receive_request(port, at, spdu, safe);
         let told = library::receive_request(&self.bench, port, at, spdu, safe);
-        self.follow("receive_request", port, expected, told)
+        let zeros = self.zeros(port, Direction::Response);
+        self.follow("receive_request", port, expected, told, [[&[], &zeros], [spdu, safe]])
     }
 
     pub fn clock(&mut self, port: u8, at: u32, safe_in: &[u8], safe_out: &[u8]) -> Reply {
         let expected = self.model.clock(port, at, safe_in, safe_out);
         let told = library::clock(&self.bench, port, at, safe_in, safe_out);
-        self.follow("clock", port, expected, told)
+        self.follow("clock", port, expected, told, [[&[], safe_in], [&[], safe_out]])
     }
 
     pub fn operator(&mut self, port: u8, at: u32, signals: [bool; 2], safe: &[u8]) -> Reply {
         let expected = self.model.operator(port, at, signals, safe);
         let told = library::operator(&self.bench, port, at, signals, safe);
-        self.follow("operator", port, expected, told)
+        let zeros = self.zeros(port, Direction::Request);
+        self.follow("operator", port, expected, told, [[&[], safe], [&[], &zeros]])
     }
 
     /// The whole buffer is compared. The part lent, where the call was taken.

@@ -175,6 +175,17 @@ extern "C" {
         out_length: usize,
     ) -> u8;
     fn whakelouna_split(bench: Bench, port: u8, octets: *const u8, length: usize) -> SplitTold;
+    fn whakelouna_handed_on(
+        bench: Bench,
+        port: u8,
+        mark: u8,
+        spdu: *const u8,
+        spdu_length: usize,
+        safe: *const u8,
+        safe_length: usize,
+        out: *mut u8,
+        out_length: usize,
+    ) -> HandedTold;
     fn whakelouna_trend(bench: Bench, port: u8) -> Trend;
     fn whakelouna_bins(bench: Bench, port: u8) -> BinsTold;
     fn whakelouna_master(bench: Bench, port: u8) -> MasterTold;
@@ -371,6 +382,13 @@ pub struct SplitTold {
     pub number: u8,
     pub spdu: usize,
     pub other: usize,
+}
+
+#[repr(C)]
+#[derive(Clone, Copy, Debug, PartialEq)]
+pub struct HandedTold {
+    pub number: u8,
+    pub octets: usize,
 }
 
 #[repr(C)]
@@ -573,6 +591,29 @@ pub fn build_response(bench: &Bench, port: u8, process: &[u8], out: &mut [u8]) -
 
 pub fn split(bench: &Bench, port: u8, octets: &[u8]) -> SplitTold {
     unsafe { whakelouna_split(*bench, port, octets.as_ptr(), octets.len()) }
+}
+
+pub fn handed_on(
+    bench: &Bench,
+    port: u8,
+    mark: u8,
+    spdu: &[u8],
+    safe: &[u8],
+    out: &mut [u8],
+) -> HandedTold {
+    unsafe {
+        whakelouna_handed_on(
+            *bench,
+            port,
+            mark,
+            spdu.as_ptr(),
+            spdu.len(),
+            safe.as_ptr(),
+            safe.len(),
+            out.as_mut_ptr(),
+            out.len(),
+        )
+    }
 }
 
 pub fn trend(bench: &Bench, port: u8) -> Trend {

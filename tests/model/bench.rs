@@ -139,6 +139,20 @@ impl Running {
         [self.master.uses_pd, self.device.uses_pd]
     }
 
+    /// What a call hands on for each end: zeros where it does not release; the octets of the SPDU that led to T4, T11 or T22;
+    /// else nothing, as earlier octets stay released.
+    fn handed_on(&self, rows: [u8; 2], spdu: &[u8]) -> [Vec<u8>; 2] {
+        let directions = [Direction::Response, Direction::Request];
+        std::array::from_fn(|end| {
+            let releases = self.releases()[end];
+            match rows[end] {
+                _ if !releases => vec![0; self.process_octets(directions[end])],
+                4 | 11 | 22 => self.format(directions[end]).process(spdu).to_vec(),
+                _ => vec![],
+            }
+        })
+    }
+
     fn shown(&self) -> Shown {
         Shown {
             running: true,
@@ -187,11 +201,13 @@ pub struct BenchModel {
     ports: [Option<Running>; 8],
     /// How often each row of Tables 38 and 40 was taken.
     pub rows: [u64; 32],
+    /// What the last call with a reading handed on, for the FS-Master and for the FS-Device.
+    pub handed_on: [Vec<u8>; 2],
 }
 
 impl BenchModel {
     pub fn new() -> BenchModel {
-        BenchModel { ports: [(); 8].map(|_| None), rows: [0; 32] }
+        BenchModel { ports: [(); 8].map(|_| None), rows: [0; 32], handed_on: [vec![], vec![]] }
     }
 
     /// "For every other call: 8, 9": the port addressed.
@@ -202,14 +218,17 @@ impl BenchModel {
         }
     }
 
-    /// A call with a reading at a port that runs: its refusals, then the watchdogs, then what arrived.
+    /// A call with a reading at a port that runs: its refusals, then the watchdogs, then what arrived. `spdu` is empty where
+    /// that is none.
     fn happening(
         &mut self,
         port: u8,
         at: u32,
+        spdu: &[u8],
         refusals: impl FnOnce(&Running) -> Result<(), u8>,
         arrival: impl FnOnce(&mut Running, &mut [Said; 2]),
     ) -> Reply {
+        self.handed_on = [vec![], vec![]];
         if let Err(number) = self.addressed(port).and_then(refusals) {
             return Reply::silent(number, 0);
         }
@@ -217,6 +236,7 @@ impl BenchModel {
         let mut said = running.judge(at);
         let watchdogs = said.map(|said| said.watchdog);
         arrival(running, &mut said);
+        self.handed_on = running.handed_on(said.map(|said| said.arrival), spdu);
         for row in watchdogs.into_iter().chain(said.map(|said| said.arrival)) {
             self.rows[usize::from(row)] += 1;
         }
@@ -229,6 +249,7 @@ impl BenchModel {
     }
 
     pub fn set_parameters(&mut self, port: u8, at: u32, octets: &[u8]) -> Reply {
+        self.handed_on = [vec![], vec![]];
         let answer = block::judge(octets, port);
         if answer.number == 0 {
             let running = Running::after_block(answer.parameters, at);
@@ -241,6 +262,7 @@ impl BenchModel {
         self.happening(
             port,
             at,
+            spdu,
             |running| {
                 refused_by(&[
                     (SPDU_LENGTH, spdu.len() != running.length(M)),
@@ -255,6 +277,7 @@ impl BenchModel {
         self.happening(
             port,
             at,
+            spdu,
             |running| {
                 refused_by(&[
                     (SPDU_LENGTH, spdu.len() != running.length(O)),
@@ -269,6 +292,7 @@ impl BenchModel {
         self.happening(
             port,
             at,
+            &[],
             |running| {
                 refused_by(&[
                     (BUFFER, !running.safe_values_hold(Direction::Response, safe_in)),
@@ -284,6 +308,7 @@ impl BenchModel {
         self.happening(
             port,
             at,
+            &[],
             |running| refused_by(&[(BUFFER, !running.safe_values_hold(Direction::Response, safe))]),
             |running, said| {
                 said[0] = running
@@ -340,6 +365,18 @@ impl BenchModel {
             Ok((m, n)) => (0, m, n),
             Err(number) => (number, 0, 0),
         }
+    }
+
+    /// Octets that a call handed on, copied to the front of a buffer: the answer's number, how many octets, and what the buffer
+    /// holds afterwards.
+    pub fn copied(&self, port: u8, octets: &[u8], buffer: &[u8]) -> (u8, usize, Vec<u8>) {
+        let copied = self.addressed(port).and_then(|_| {
+            refused_by(&[(BUFFER, buffer.len() < octets.len())])?;
+            Ok([octets, &buffer[octets.len()..]].concat())
+        });
+        let count = if copied.is_ok() { octets.len() } else { 0 };
+        let (number, buffer) = built(copied, buffer);
+        (number, count, buffer)
     }
 
     pub fn trend(&self, port: u8) -> (u8, Point) {

@@ -63,6 +63,13 @@ impl Format {
         &spdu[..contents.min(spdu.len())]
     }
 
+    /// The process octets of an SPDU of the right length: what stands ahead of port number, control or status octet and
+    /// signature.
+    pub fn process<'a>(&self, spdu: &'a [u8]) -> &'a [u8] {
+        let contents = self.contents(spdu);
+        &contents[..contents.len() - 2]
+    }
+
     /// The signature of contents from seed 1, before a zero is replaced.
     pub fn computed(&self, contents: &[u8]) -> u32 {
         signature_by_numbers(self.generator(), 1, contents)

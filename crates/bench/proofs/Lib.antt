@@ -2,6 +2,7 @@ pub mod Taken
 pub mod Index
 pub mod Answers
 pub mod AtPort
+pub mod Copied
 pub mod Samples
 pub mod History
 pub mod Release

@@ -155,12 +155,10 @@ fn settled(p: Port, answer: Answer, happening: Happening) -> PortAfter
 pub(crate) fn call_answer(port: u8, p: Port) -> Answer
     ensures { λ r. ⌜ r ≡ answerBy answers.Taken (calls.callRules port p) ⌝ }
 {
-    let a = refuse(
-        Answer::Taken,
-        ranges::outside(1, 8, port as u32),
-        Answer::NoPort,
-    );
-    refuse(a, !p.running, Answer::NotRunning)
+    let outside = ranges::outside(1, 8, port as u32);
+    let stopped = !p.running;
+    let a = refuse(Answer::Taken, outside, Answer::NoPort);
+    refuse(a, stopped, Answer::NotRunning)
 }
 
 fn has_length(configured: u8, length: usize) -> bool

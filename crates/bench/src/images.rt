@@ -1,8 +1,10 @@
 // The calls on outgoing and incoming octets.
 ghost use mathlib.Core.Path.{_≡_};
+ghost use lib.ListN.{length};
 ghost use Rattle.bench.specs.Ports.{portAt};
 ghost use Rattle.bench.specs.Images as images;
 use crate::Bench;
+use crate::Handed;
 use crate::at_port::call_answer;
 use crate::calls::port_at;
 use answer::Answer;
@@ -96,4 +98,39 @@ pub fn handed_on<'a>(b: Bench, port: u8, mark: Mark, spdu: &'a [u8], safe: &'a [
 {
     let p = port_at(b, port);
     spdu::handed_on(mark, p.params.FSP_ProtMode, spdu, safe)
+}
+
+// The same, copied to the front of out; 7 where out has no room for it.
+pub fn hand_on<'a>(
+    b: Bench,
+    port: u8,
+    mark: Mark,
+    spdu: &'a [u8],
+    safe: &'a [u8],
+    out: &mut [u8],
+) -> Handed
+    ensures { λ r. ⌜ r ≡ images.handedTo port (portAt b port) mark (now (spdu .entry)) (now (safe .entry)) (length (now (out .entry))) ⌝ }
+    ensures { λ _. ⌜ now (out .exit) ≡ images.handedOut port (portAt b port) mark (now (spdu .entry)) (now (safe .entry)) (now (out .entry)) ⌝ }
+{
+    let a = call_answer(port, port_at(b, port));
+    if answer::is_taken(a) {
+        let part = handed_on(b, port, mark, spdu, safe);
+        if part.len() <= out.len() {
+            let n = bytes::copy(part, out);
+            Handed {
+                answer: Answer::Taken,
+                octets: n,
+            }
+        } else {
+            Handed {
+                answer: Answer::Buffer,
+                octets: 0,
+            }
+        }
+    } else {
+        Handed {
+            answer: a,
+            octets: 0,
+        }
+    }
 }

@@ -19,6 +19,7 @@ use fs_master::Master;
 use histogram::Histogram;
 pub use images::build_response;
 pub use images::compose;
+pub use images::hand_on;
 pub use images::handed_on;
 pub use images::other_part;
 pub use images::spdu_part;
@@ -74,6 +75,12 @@ pub struct PortAfter {
 pub struct BenchAfter {
     pub bench: Bench,
     pub reply: Reply,
+}
+
+// How many octets were copied of what a call handed on.
+pub struct Handed {
+    pub answer: Answer,
+    pub octets: usize,
 }
 
 // The bins of a port with their total and the frozen mark.

@@ -1,13 +1,18 @@
 -- The bench's results in numbers, for other languages. Assumes nothing.
 use Prim.Native.Nat.{ℕ}
+use mathlib.Core.Bool.{cond}
 use mathlib.Core.List.{List}
+use lib.Dec.{eqb}
 use lib.ListN.{length}
 use Rattle.answer.specs.Answers.{numberOf, offsetOf}
+use Rattle.scl.specs.declared.Mark.{Mark}
+use Rattle.scl.specs.declared.Mark.the-variants.{Fresh, GoesOn, Safe, Nothing}
 use Rattle.scl.specs.Happenings.{markNumberOf}
 use Rattle.histogram.specs.declared.Trend.{Trend}
 use Rattle.bench.specs.declared.Port.{Port}
 use Rattle.bench.specs.declared.Reply.{Reply}
 use Rattle.bench.specs.declared.BenchAfter.{BenchAfter}
+use Rattle.bench.specs.declared.Handed.{Handed}
 use Rattle.bench.specs.declared.Bins.{Bins}
 use Rattle.bench.specs.declared.MasterShown.{MasterShown}
 use Rattle.bench.specs.declared.DeviceShown.{DeviceShown}
@@ -16,6 +21,7 @@ use Rattle.export.specs.declared.histograms.NumberedTrend.{NumberedTrend
 use Rattle.export.specs.declared.benches.ReplyTold.{ReplyTold}
 use Rattle.export.specs.declared.benches.BenchTold.{BenchTold}
 use Rattle.export.specs.declared.benches.SplitTold.{SplitTold}
+use Rattle.export.specs.declared.benches.HandedTold.{HandedTold}
 use Rattle.export.specs.declared.benches.BinsTold.{BinsTold}
 use Rattle.export.specs.declared.benches.MasterTold.{MasterTold}
 use Rattle.export.specs.declared.benches.DeviceTold.{DeviceTold}
@@ -39,6 +45,13 @@ splitTold port p octets = record {
   spdu = length (spduPart port p octets);
   other = length (otherPart port p octets);
 }
+
+-- the mark that a number stands for (`markNumberOf`); a number that stands for none hands on nothing
+unfoldable pub markOf : ℕ → Mark
+markOf n = cond (eqb n 0) Fresh (cond (eqb n 1) GoesOn (cond (eqb n 2) Safe Nothing))
+
+abbrev pub handedTold : Handed → HandedTold
+handedTold h = record { number = numberOf (h .answer); octets = h .octets }
 
 abbrev pub trendTold : Trend → NumberedTrend
 trendTold t = record { number = numberOf (t .answer); point = t .point }

@@ -1,6 +1,7 @@
 // The bench (crate bench): eight ports and every call on them. Answers and marks are numbers here. An incoming image is told by the lengths of
 // its two parts, the SPDU first; an exported function returns no reference.
 ghost use mathlib.Core.Path.{_≡_};
+ghost use lib.ListN.{length};
 ghost use Rattle.answer.specs.Answers.{numberOf};
 ghost use Rattle.bench.specs.Ports.{newBench, portAt};
 ghost use Rattle.bench.specs.Calls as calls;
@@ -12,6 +13,7 @@ use bench::Bench;
 use bench::BenchAfter;
 use fs_device::Device;
 use fs_master::Master;
+use scl::Mark;
 
 #[repr(C)]
 pub struct ReplyTold {
@@ -34,6 +36,12 @@ pub struct SplitTold {
     pub number: u8,
     pub spdu: usize,
     pub other: usize,
+}
+
+#[repr(C)]
+pub struct HandedTold {
+    pub number: u8,
+    pub octets: usize,
 }
 
 #[repr(C)]
@@ -187,6 +195,45 @@ pub extern "C" fn whakelouna_split(bench: Bench, port: u8, octets: &[u8]) -> Spl
         number: answer::number(answer),
         spdu: bench::spdu_part(bench, port, octets).len(),
         other: bench::other_part(bench, port, octets).len(),
+    }
+}
+
+fn mark_of(number: u8) -> Mark
+    ensures { λ r. ⌜ r ≡ told.markOf number ⌝ }
+{
+    let fresh = number == 0;
+    let goes_on = number == 1;
+    let safe = number == 2;
+    if fresh {
+        return Mark::Fresh;
+    }
+    if goes_on {
+        return Mark::GoesOn;
+    }
+    if safe {
+        return Mark::Safe;
+    }
+    Mark::Nothing
+}
+
+// Copies what a call with this mark handed on to the front of out.
+#[no_mangle]
+pub extern "C" fn whakelouna_handed_on<'a>(
+    bench: Bench,
+    port: u8,
+    mark: u8,
+    spdu: &'a [u8],
+    safe: &'a [u8],
+    out: &mut [u8],
+) -> HandedTold
+    ensures { λ r. ⌜ r ≡ told.handedTold (images.handedTo port (portAt bench port) (told.markOf mark) (now (spdu .entry)) (now (safe .entry)) (length (now (out .entry)))) ⌝ }
+    ensures { λ _. ⌜ now (out .exit) ≡ images.handedOut port (portAt bench port) (told.markOf mark) (now (spdu .entry)) (now (safe .entry)) (now (out .entry)) ⌝ }
+{
+    let handed = bench::hand_on(bench, port, mark_of(mark), spdu, safe, out);
+    let answer = handed.answer;
+    HandedTold {
+        number: answer::number(answer),
+        octets: handed.octets,
     }
 }
 

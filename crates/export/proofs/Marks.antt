@@ -1,0 +1,13 @@
+-- The number that a call's reply has for a mark stands for that mark. Assumes nothing.
+use mathlib.Core.Path.{_≡_, refl}
+use Rattle.scl.specs.declared.Mark.{Mark}
+use Rattle.scl.specs.declared.Mark.the-variants.{Fresh, GoesOn, Safe, Nothing}
+use Rattle.scl.specs.Happenings.{markNumberOf}
+use Rattle.export.specs.Benches.{markOf}
+
+pub mark-back : (m : Mark) → markOf (markNumberOf m) ≡ m
+unfolding markOf
+mark-back Fresh = refl
+mark-back GoesOn = refl
+mark-back Safe = refl
+mark-back Nothing = refl
