@@ -76,7 +76,7 @@ joined here e = e
 joined (next f d) e = next f (joined d e)
 
 -- a record has octets
-fewer : {s r : List ℕ} {rs : List Entry} → Reads s rs r → length rs ≤ length s
+pub fewer : {s r : List ℕ} {rs : List Entry} → Reads s rs r → length rs ≤ length s
 fewer here = omega arith
 fewer {s} (next f d) = omega (arith, fewer d, whole-fits s f, length-drop (sizeOf s) s)
 
@@ -88,7 +88,7 @@ all-of n {s} (next {rs = rs} f d) e h =
     let pos : 0 < n = omega arith in
     (first-record n s f pos ∙ ap (λ (l : List Entry). entryOf s ∷ l) (i .0), first-rest n s f pos ∙ i .1)
 
-ran-append : (st : State) (rs rs₂ : List Entry) → ran st (rs ++ rs₂) ≡ ran (ran st rs) rs₂
+pub ran-append : (st : State) (rs rs₂ : List Entry) → ran st (rs ++ rs₂) ≡ ran (ran st rs) rs₂
 ran-append st [] rs₂ = refl
 ran-append st (e ∷ rs) rs₂ = ran-append (applied st e) rs rs₂
 
