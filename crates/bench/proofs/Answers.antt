@@ -1,8 +1,8 @@
 -- Each call's answer is the number that 01's table gives, and a refused call changes nothing and writes no buffer. Assumes nothing.
 use Prim.Native.Nat.{ℕ, _<_}
-use mathlib.Core.Path.{_≡_, refl, sym, ap, _∙_}
+use mathlib.Core.Path.{_≡_, refl, ap, _∙_}
 use mathlib.Core.Logic.{_↔_}
-use mathlib.Core.Bool.{Bool, true, false, cond, not}
+use mathlib.Core.Bool.{Bool, true, false, cond}
 use mathlib.Core.List.{List, [], _∷_, _++_}
 use lib.Dec.{eqb}
 use lib.ListN.{length}
@@ -12,7 +12,6 @@ use Rattle.answer.specs.Answers.{isTaken}
 use Rattle.answer.specs.Rules.{Rule, answerBy, answerAt, First, Kept}
 use Rattle.answer.proofs.Exact.{given-exactly, taken-exactly}
 use Rattle.block.specs.declared.Params.{Params}
-use Rattle.block.specs.Rules.{judged}
 use Rattle.scl.specs.declared.Request.{Request}
 use Rattle.scl.specs.declared.Response.{Response}
 use Rattle.spdu.specs.Signature.{byBits}
@@ -24,7 +23,7 @@ use Rattle.scl.proofs.Cases.{cond-case, no}
 use Rattle.bench.specs.declared.Port.{Port}
 use Rattle.bench.specs.declared.Bench.{Bench}
 use Rattle.bench.specs.Ports.{portAt, stepOf, silent}
-use Rattle.bench.specs.Calls.{callRules, responseRules, requestRules, clockRules, operatorRules, settled, parametersAs, placed, responseAt, requestAt, clockAt, operatorAt, parametersAt}
+use Rattle.bench.specs.Calls.{callRules, responseRules, requestRules, settled, parametersAs, placed, responseAt, requestAt, clockAt, operatorAt, parametersAt}
 use Rattle.bench.specs.Images.{composeAnswer, composed, buildAnswer, responseOut, splitAnswer}
 use Rattle.bench.specs.Shown.{trendOf, binsOf, masterOf, deviceOf}
 use Rattle.bench.specs.History.{Call, SetParameters, ReceiveResponse, ReceiveRequest, Clock, Operator, Compose, BuildResponse, Split, Trend, Bins, ShowMaster, ShowDevice, portOf, rulesOf, answerOf, after, history}

@@ -1,11 +1,9 @@
 -- After every list of calls from the new bench, a port holds what 01 says of the calls since its last accepted block. Assumes nothing.
 use Prim.Native.Nat.{ℕ, _≤_}
-use native.Mathlib.Omega.{arith}
 use mathlib.Core.Path.{_≡_, refl, sym, ap, ap₂, _∙_}
 use mathlib.Core.Bool.{Bool, true, false, cond, not, _&&_}
 use mathlib.Core.List.{List, [], _∷_, _++_, append-nil}
 use lib.Dec.{eqb, leb}
-use lib.ListN.{length}
 use borrow.Author.Tests.{eqb-true, leb-true}
 use Rattle.answer.specs.declared.Answer.the-variants.{Taken}
 use Rattle.answer.specs.Answers.{isTaken}
@@ -28,11 +26,10 @@ use Rattle.fs_device.specs.Calls as devices
 use Rattle.fs_device.specs.History.{deviceAfter}
 use Rattle.histogram.specs.declared.Histogram.{Histogram}
 use Rattle.histogram.specs.Samples.{Within, none, Holds}
-use Rattle.histogram.specs.Counted.{clearedOf, countedOf}
+use Rattle.histogram.specs.Counted.{countedOf}
 use Rattle.histogram.proofs.Counting.{cleared-holds, counted-holds}
 use Rattle.histogram.proofs.Samples.{within-more}
 use Rattle.bench.specs.declared.Port.{Port}
-use Rattle.bench.specs.declared.Bench.{Bench}
 use Rattle.bench.specs.Ports.{newPort, acceptedPort, portAt, tallied, stepOf}
 use Rattle.bench.specs.History.{Call, SetParameters, ReceiveResponse, ReceiveRequest, Clock, Operator, Compose, BuildResponse, Split, Trend, Bins, ShowMaster, ShowDevice, portOf, rulesOf, answerOf, after, history, Since, never, since, goesOn, extended, sinceBlock, timeOf, isSample, samples, StandsSince, Stands}
 use Rattle.bench.proofs.Index.{new-at}

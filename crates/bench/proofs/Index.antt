@@ -1,11 +1,11 @@
 -- A port's place in the bench. Assumes nothing.
 use Prim.Native.Nat.{ℕ, _-_, _≤_}
 use native.Mathlib.Omega.{arith}
-use mathlib.Core.Path.{_≡_, refl, sym, _∙_}
-use mathlib.Core.Bool.{Bool, true, false, cond, not, _&&_}
+use mathlib.Core.Path.{_≡_, refl}
+use mathlib.Core.Bool.{Bool, true, false, not, _&&_}
 use borrow.Author.Tests.{eqb-false, leb-true}
 use lib.Dec.{eqb, leb}
-use lib.ListN.{length, getD, set, replicate, length-set, getD-replicate}
+use lib.ListN.{length, length-set, getD-replicate}
 use lib.Seq.{getD-set-same, getD-set-other}
 use Rattle.answer.specs.Answers.{isTaken}
 use Rattle.ranges.specs.Fields.{outside}
@@ -13,7 +13,6 @@ use Rattle.scl.proofs.Cases.{cond-case, no, and-left, and-right}
 use Rattle.bench.specs.declared.Port.{Port}
 use Rattle.bench.specs.declared.Bench.{Bench}
 use Rattle.bench.specs.declared.PortAfter.{PortAfter}
-use Rattle.bench.specs.declared.BenchAfter.{BenchAfter}
 use Rattle.bench.specs.Ports.{newPort, noPort, newBench, portAt, withPort}
 use Rattle.bench.specs.Calls.{placed}
 

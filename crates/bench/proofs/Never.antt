@@ -1,15 +1,13 @@
 -- Values that never arise do not arise, in any history. Assumes nothing.
-use Prim.Native.Nat.{ℕ, _-_, _%_, _≤_, _<_}
+use Prim.Native.Nat.{ℕ, _-_, _≤_, _<_}
 use native.Mathlib.Omega.{arith}
 use mathlib.Core.Path.{_≡_, refl, sym, ap, _∙_}
 use mathlib.Core.Bool.{Bool, true, false, cond, _&&_}
 use mathlib.Core.List.{List, [], _∷_}
 use lib.Dec.{eqb}
 use lib.ListN.{length, getD}
-use borrow.Author.Tests.{eqb-true, eqb-false}
-use Rattle.answer.specs.declared.Answer.the-variants.{Taken}
+use borrow.Author.Tests.{eqb-true}
 use Rattle.answer.specs.Answers.{isTaken}
-use Rattle.answer.specs.Rules.{answerBy}
 use Rattle.ranges.specs.Fields.{outside}
 use Rattle.block.specs.declared.Params.{Params}
 use Rattle.block.specs.Accepted.{Accepted}
@@ -44,7 +42,7 @@ use Rattle.bench.specs.declared.Port.{Port}
 use Rattle.bench.specs.Ports.{newPort, portAt}
 use Rattle.bench.specs.Calls.{placed, parametersAs}
 use Rattle.bench.specs.Ports.{silent}
-use Rattle.bench.specs.History.{Call, SetParameters, ReceiveResponse, ReceiveRequest, Clock, Operator, Compose, BuildResponse, Split, Trend, Bins, ShowMaster, ShowDevice, portOf, answerOf, history, Since, never, since, goesOn, extended, sinceBlock, Previous, previousBy, lastTaken, StandsSince, Stands, Arising, blockIn, OctetsIn, no-call, one-more}
+use Rattle.bench.specs.History.{Call, SetParameters, ReceiveResponse, ReceiveRequest, Clock, Operator, Compose, BuildResponse, Split, Trend, Bins, ShowMaster, ShowDevice, portOf, answerOf, history, Since, never, since, goesOn, extended, sinceBlock, Previous, previousBy, lastTaken, Stands, Arising, blockIn, OctetsIn, no-call, one-more}
 use Rattle.bench.proofs.Samples.{previous-is}
 use Rattle.bench.proofs.History.{stands}
 

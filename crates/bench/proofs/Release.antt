@@ -1,21 +1,21 @@
 -- What the rows come to at both ends of a port, after every list of calls from the new bench. Assumes nothing.
 use Prim.Native.Nat.{ℕ, _<_}
-use mathlib.Core.Path.{_≡_, sym, ap, _∙_}
+use mathlib.Core.Path.{_≡_}
 use mathlib.Core.Bool.{true, false}
 use mathlib.Core.List.{List}
 use Rattle.ranges.specs.Fields.{outside}
 use Rattle.block.specs.declared.Params.{Params}
 use Rattle.scl.specs.declared.Happening.{Happening}
 use Rattle.fs_master.specs.declared.Master.{Master}
-use Rattle.fs_master.specs.History.{masterAfter, hasPassed, signals, HoldsSignals, None, fault}
+use Rattle.fs_master.specs.History.{hasPassed, signals, HoldsSignals, None, fault}
 use Rattle.fs_master.proofs.Release as released
 use Rattle.fs_master.proofs.Acknowledge as acknowledge
 use Rattle.fs_master.proofs.Signals as held
 use Rattle.fs_device.specs.declared.Device.{Device}
-use Rattle.fs_device.specs.History.{deviceAfter, passedSince, hadErrorOrTimeout}
+use Rattle.fs_device.specs.History.{passedSince, hadErrorOrTimeout}
 use Rattle.fs_device.proofs.Release as cycles
 use Rattle.bench.specs.Ports.{portAt}
-use Rattle.bench.specs.History.{Call, history, Since, since, sinceBlock, StandsSince, Stands}
+use Rattle.bench.specs.History.{Call, history, since, sinceBlock, StandsSince, Stands}
 use Rattle.bench.proofs.History.{stands}
 
 -- a port of the bench, what happened at it since its last accepted block, and the block

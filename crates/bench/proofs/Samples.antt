@@ -14,7 +14,7 @@ use Rattle.scl.proofs.Cases.{cond-case}
 use Rattle.scl.specs.declared.Response.{Response}
 use Rattle.fs_master.specs.declared.Master.{Master}
 use Rattle.fs_master.specs.declared.Row.{Row}
-use Rattle.fs_master.specs.Table38.{firstMaster, watchdogRow, isTaken, isOld, sampleFrom, t8, t14, acted, signalled, rowNumberOf}
+use Rattle.fs_master.specs.Table38.{watchdogRow, isTaken, sampleFrom, t8, t14, acted, signalled, rowNumberOf}
 use Rattle.fs_master.specs.Calls.{judged, quiet, watched, operated, stepOf}
 use Rattle.fs_master.specs.History.{sound, masterAfter, judgedIn, passesBy}
 use Rattle.fs_master.proofs.Rows.{timeout-case}

@@ -1,8 +1,7 @@
 -- The wrap of the clock changes nothing at the FS-Device. Assumes nothing.
 use Prim.Native.Nat.{ℕ, _<_, _^_}
 use mathlib.Core.Path.{_≡_, refl}
-use mathlib.Core.Bool.{Bool, true, false, cond}
-use Rattle.scl.specs.Time.{elapsedOf, expiredOf}
+use mathlib.Core.Bool.{Bool, false}
 use Rattle.scl.specs.Happenings.{isFailure, readingOf}
 use Rattle.scl.specs.declared.Happening.{Happening}
 use Rattle.scl.specs.declared.Happening.the-variants as happening

@@ -13,7 +13,7 @@ use Rattle.scl.proofs.Cases.{cond-case, no, and-left, and-right}
 use Rattle.fs_master.specs.declared.Master.{Master}
 use Rattle.fs_master.specs.declared.Outcome.{Outcome}
 use Rattle.fs_master.specs.declared.Row.{Row}
-use Rattle.fs_master.specs.declared.Row.the-variants.{Stay, T4, T7, T8, T11, T12, T13, T14}
+use Rattle.fs_master.specs.declared.Row.the-variants.{T11, T13}
 use Rattle.fs_master.specs.Table38.{watchdogRow, isOld, isTaken, hasFaults, checked, arrivalRow, taken, t4, t7, t8, t11, t12, t13, t14, acted, signalled}
 use Rattle.fs_master.specs.Calls.{judged, quiet, arrived, received, watched, operated, stepOf}
 use Rattle.fs_master.specs.History.{masterAfter, Signals, signals, HoldsSignals, Fault, None, Open, Asked, faultAfter, fault, Held}

@@ -6,7 +6,7 @@ use Rattle.scl.specs.Counts.{countAfter}
 use Rattle.scl.specs.Happenings.{isFailure}
 use Rattle.scl.proofs.Cases.{cond-case, no}
 use mathlib.Core.Path.{_≡_, refl, sym, ap, _∙_}
-use mathlib.Core.Bool.{Bool, true, false, cond, not, _&&_, _||_}
+use mathlib.Core.Bool.{Bool, true, false}
 use mathlib.Core.List.{List, [], _∷_}
 use lib.Dec.{eqb}
 use Rattle.scl.specs.declared.Happening.{Happening}
@@ -19,7 +19,7 @@ use Rattle.fs_master.specs.declared.Row.the-variants.{Stay, T4, T7, T8, 
 use Rattle.fs_master.specs.Calls.{judged, quiet, arrived, received, watched, operated, stepOf}
 use Rattle.fs_master.proofs.Rows.{timeout-case, row-case}
 use Rattle.fs_master.specs.Table38.{watchdogRow, isOld, isTaken, hasFaults, checked, arrivalRow, taken, t4, t7, t8, t11, t12, t13, t14, acted, signalled, firstMaster}
-use Rattle.fs_master.specs.History.{countBy, waits, Held, masterAfter}
+use Rattle.fs_master.specs.History.{countBy, Held, masterAfter}
 
 acted-count : (m : Master) (r : Row) (at : ℕ) (SDset : Bool) → acted m r at SDset .MCount ≡ countBy r (m .MCount)
 unfolding acted countBy t4 t7 t8 t11 t12 t13 t14

@@ -3,20 +3,18 @@ use Prim.Native.Nat.{ℕ}
 use Rattle.scl.specs.Happenings.{checkOf, isFailure}
 use Rattle.scl.specs.declared.Check.{Check}
 use Rattle.scl.specs.declared.Mark.the-variants.{Safe}
-use Rattle.scl.proofs.Cases.{cond-case, no}
+use Rattle.scl.proofs.Cases.{no}
 use mathlib.Core.Path.{_≡_, refl}
-use mathlib.Core.Bool.{Bool, true, false, cond, not, _&&_, _||_}
+use mathlib.Core.Bool.{Bool, true, false, not, _&&_, _||_}
 use lib.Dec.{eqb}
-use Rattle.scl.specs.declared.Happening.{Happening}
 use Rattle.scl.specs.declared.Happening.the-variants as happening
 use Rattle.scl.specs.declared.Response.{Response}
 use Rattle.fs_master.specs.declared.Master.{Master}
 use Rattle.fs_master.specs.declared.Outcome.{Outcome}
 use Rattle.fs_master.specs.declared.Row.{Row}
-use Rattle.fs_master.specs.declared.Row.the-variants.{Stay, T4, T7, T8, T11, T12, T13, T14}
-use Rattle.fs_master.specs.Calls.{judged, quiet, arrived, received, watched, operated, stepOf}
-use Rattle.fs_master.proofs.Rows.{timeout-case, row-case}
-use Rattle.fs_master.specs.Table38.{watchdogRow, isOld, isExpected, isTaken, hasFaults, checked, arrivalRow, taken, t7, t12, acted}
+use Rattle.fs_master.specs.Calls.{judged, quiet, arrived, received, stepOf}
+use Rattle.fs_master.proofs.Rows.{row-case}
+use Rattle.fs_master.specs.Table38.{watchdogRow, isOld, isExpected, isTaken, checked, arrivalRow, taken, t7, t12, acted}
 use Rattle.fs_master.specs.History.{sound}
 
 fails : (s p c : Bool) → (s && p && c) ≡ false → isFailure (checkOf s p c) ≡ true

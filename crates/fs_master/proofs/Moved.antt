@@ -5,7 +5,7 @@ use Rattle.scl.specs.declared.Check.{Check}
 use Rattle.scl.proofs.Cases.{cond-both}
 use Rattle.scl.proofs.Time.{shifted}
 use mathlib.Core.Path.{_≡_, refl}
-use mathlib.Core.Bool.{Bool, true, false, cond, not, _&&_, _||_}
+use mathlib.Core.Bool.{Bool, false}
 use lib.Dec.{eqb}
 use Rattle.scl.specs.declared.Happening.{Happening}
 use Rattle.scl.specs.declared.Happening.the-variants as happening

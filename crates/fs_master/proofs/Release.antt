@@ -2,7 +2,7 @@
 use Prim.Native.Nat.{ℕ}
 use native.Mathlib.Omega.{arith}
 use mathlib.Core.Path.{_≡_, refl}
-use mathlib.Core.Bool.{Bool, true, false, cond, not, _&&_, _||_}
+use mathlib.Core.Bool.{Bool, true, false, not, _&&_, _||_}
 use mathlib.Core.List.{List, [], _∷_}
 use mathlib.Core.Logic.{_⊎_, inl, inr, ⊎-elim}
 use lib.Dec.{eqb}
@@ -12,14 +12,12 @@ use Rattle.scl.specs.declared.Happening.{Happening}
 use Rattle.scl.specs.declared.Happening.the-variants as happening
 use Rattle.scl.specs.declared.Mark.{Mark}
 use Rattle.scl.specs.declared.Mark.the-variants.{Fresh, GoesOn, Safe}
-use Rattle.scl.specs.declared.Check.{Check}
-use Rattle.scl.proofs.Cases.{cond-case, no, and-left, and-right, or-left, or-right}
+use Rattle.scl.proofs.Cases.{cond-case, no, or-left, or-right}
 use Rattle.scl.specs.declared.Response.{Response}
 use Rattle.fs_master.specs.declared.Master.{Master}
 use Rattle.fs_master.specs.declared.Outcome.{Outcome}
 use Rattle.fs_master.specs.declared.Row.{Row}
-use Rattle.fs_master.specs.declared.Row.the-variants.{Stay, T4, T7, T8, T11, T12, T13, T14}
-use Rattle.fs_master.specs.Table38.{watchdogRow, isOld, isExpected, isTaken, hasFaults, checked, from8, arrivalRow, taken, t4, t7, t8, t11, t12, t13, t14, acted, signalled, firstMaster}
+use Rattle.fs_master.specs.Table38.{watchdogRow, isOld, isExpected, isTaken, hasFaults, checked, arrivalRow, taken, t4, t7, t8, t11, t12, t13, t14, acted, signalled}
 use Rattle.fs_master.specs.Calls.{judged, quiet, arrived, received, watched, operated, stepOf}
 use Rattle.fs_master.specs.History.{Releases, releasingRow, FreshBy, masterAfter, judgedIn, passesBy, hasPassed}
 use Rattle.fs_master.proofs.Rows.{timeout-case, row-case}

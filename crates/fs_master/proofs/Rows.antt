@@ -1,18 +1,16 @@
 -- The FS-Master's rows one by one: what holds of each holds of a call. Assumes nothing.
 use Prim.Native.Nat.{ℕ, _≤_}
 use mathlib.Core.Path.{_≡_, refl}
-use mathlib.Core.Bool.{Bool, true, false, cond, not, _&&_, _||_}
+use mathlib.Core.Bool.{Bool, true, false, cond, _&&_}
 use lib.Dec.{eqb}
 use borrow.Author.Tests.{le-ltb, ne-eqb, eqb-true}
 use native.Mathlib.Omega.{arith}
 use Rattle.scl.specs.Time.{elapsedOf, expiredOf}
 use Rattle.scl.proofs.Cases.{cond-case}
-use Rattle.scl.specs.declared.Response.{Response}
 use Rattle.fs_master.specs.declared.Master.{Master}
-use Rattle.fs_master.specs.declared.Outcome.{Outcome}
 use Rattle.fs_master.specs.declared.Row.{Row}
 use Rattle.fs_master.specs.declared.Row.the-variants.{Stay, T4, T7, T8, T11, T12, T13, T14}
-use Rattle.fs_master.specs.Table38.{timeoutRow, watchdogRow, isAcknowledged, from8, arrivalRow, acted, t8, t14}
+use Rattle.fs_master.specs.Table38.{timeoutRow, watchdogRow, isAcknowledged, from8, arrivalRow, acted}
 use Rattle.fs_master.specs.Calls.{judged}
 
 stays : (runs expired : Bool) (r : Row) → expired ≡ false → cond (runs && expired) r Stay ≡ Stay

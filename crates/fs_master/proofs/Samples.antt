@@ -1,9 +1,9 @@
 -- What a sample rests on, call by call: the start that is kept, the response that passes, and the previous SPDU. Assumes nothing.
 use Prim.Native.Nat.{ℕ}
-use mathlib.Core.Path.{_≡_, refl, sym, _∙_}
-use mathlib.Core.Bool.{Bool, true, false, cond, not, _&&_, _||_}
+use mathlib.Core.Path.{_≡_, refl, sym}
+use mathlib.Core.Bool.{Bool, true, false, cond, not, _&&_}
 use lib.Dec.{eqb}
-use borrow.Author.Tests.{eq-eqb, eqb-true}
+use borrow.Author.Tests.{eq-eqb}
 use Rattle.scl.specs.Counts.{inverted}
 use Rattle.scl.specs.Happenings.{readingOf, checkOf, isFailure}
 use Rattle.scl.specs.declared.Happening.{Happening}
@@ -14,10 +14,9 @@ use Rattle.fs_master.specs.declared.Master.{Master}
 use Rattle.fs_master.specs.declared.Outcome.{Outcome}
 use Rattle.fs_master.specs.declared.Row.{Row}
 use Rattle.fs_master.specs.declared.Row.the-variants.{Stay, T4, T7, T8, T11, T12, T13, T14}
-use Rattle.fs_master.specs.Table38.{watchdogRow, isOld, isTaken, hasFaults, checked, isExpected, arrivalRow, taken, sampleFrom, t4, t7, t8, t11, t12, t13, t14, acted, signalled, rowNumberOf}
+use Rattle.fs_master.specs.Table38.{watchdogRow, isOld, isTaken, hasFaults, checked, isExpected, arrivalRow, taken, sampleFrom, t4, t7, t8, t11, t12, t13, t14, acted, signalled}
 use Rattle.fs_master.specs.Calls.{judged, quiet, arrived, received, watched, operated, stepOf}
 use Rattle.fs_master.specs.History.{sound, passesBy}
-use Rattle.fs_master.proofs.Rows.{timeout-case, row-case}
 
 -- ---- the start
 

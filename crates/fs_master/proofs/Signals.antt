@@ -1,7 +1,7 @@
 -- 01: "Operator signals hold until the next operator happening, and are both off after an accepted block." Assumes nothing.
 use Prim.Native.Nat.{ℕ}
-use mathlib.Core.Path.{_≡_, refl}
-use mathlib.Core.Bool.{Bool, true, false}
+use mathlib.Core.Path.{refl}
+use mathlib.Core.Bool.{Bool, false}
 use mathlib.Core.List.{List, [], _∷_}
 use Rattle.scl.specs.Happenings.{isFailure}
 use Rattle.scl.specs.declared.Happening.{Happening}

@@ -1,37 +1,15 @@
 -- What the form of a record says of its octets, and that more octets behind a record, or behind what is none, leave it so. Assumes nothing.
 use Prim.Native.Nat.{ℕ, _+_, _≤_, _<_}
 use mathlib.Core.Path.{_≡_, refl, sym, _∙_}
-use mathlib.Core.Bool.{Bool, true, false, cond, _&&_, not}
+use mathlib.Core.Bool.{Bool, true, false, cond, not}
 use mathlib.Core.List.{List, _++_}
 use mathlib.Core.Logic.{⊎-elim, inl, inr, _⊎_}
-use borrow.Author.Tests.{eqb-true, ltb-true, ltb-false, ne-eqb, le-ltb, not-true, not-false}
+use borrow.Author.Tests.{eqb-true, ltb-false, ne-eqb, le-ltb, not-true, not-false}
 use lib.Dec.{eqb, ltb}
-use lib.ListN.{length, drop, length-append, List·getD-append}
+use lib.ListN.{length, length-append, List·getD-append}
 use native.Mathlib.Omega.{arith}
 use Rattle.scl.proofs.Cases.{and-right}
-use Rattle.record.specs.Format.{
-  at,
-  kindOf,
-  portOf,
-  clockOf,
-  lengthOf,
-  sizeOf,
-  headOctets,
-  markHolds,
-  lengthIn,
-  octetIn,
-  kinds,
-  headHolds,
-  octetHolds,
-  Form,
-  nothing,
-  part,
-  bad,
-  whole,
-  formBy,
-  form,
-  place,
-}
+use Rattle.record.specs.Format.{at, kindOf, portOf, clockOf, lengthOf, sizeOf, headOctets, markHolds, lengthIn, kinds, headHolds, octetHolds, Form, nothing, part, bad, whole, formBy, form, place}
 use Rattle.record.specs.declared.Record.the-variants.{Whole, Bad, Cut, End}
 
 -- a record of kind 4 whose head holds has the length 1

@@ -3,7 +3,7 @@ use Prim.Native.Nat.{ℕ, _<_}
 use mathlib.Core.Path.{_≡_, refl, sym, ap, _∙_}
 use mathlib.Core.Bool.{Bool, true, false}
 use mathlib.Core.List.{List, []}
-use lib.ListN.{length, getD, set, replicate, length-set}
+use lib.ListN.{getD, set, replicate, length-set}
 use lib.Seq.{set-getD}
 use Rattle.answer.specs.declared.Answer.{Answer}
 use Rattle.block.specs.declared.Params.{Params}
@@ -22,7 +22,7 @@ use Rattle.bench.specs.declared.Moved.{Moved}
 use Rattle.bench.specs.Ports.{noPort, acceptedPort, movedOf, tallied, stepOf}
 use Rattle.session.specs.declared.Act.{Act}
 use Rattle.session.specs.declared.Act.the-variants.{Refused, Accepted, Happens}
-use Rattle.session.specs.Columns.{joined, portsOf}
+use Rattle.session.specs.Columns.{portsOf}
 use Rattle.session.proofs.Beside.{Eight, set-columns, getD-columns}
 use Rattle.session.proofs.Turn.{actPorts}
 

@@ -22,13 +22,12 @@ use Rattle.histogram.specs.Counted.{clearedOf, totalsOf}
 use Rattle.bench.specs.Ports.{newBench, newPort, portAt, withPort, silent}
 use Rattle.bench.specs.Calls.{placed, parametersAs}
 use Rattle.bench.specs.History.{answerOf, after}
-use Rattle.record.specs.Format.{bad, form}
 use Rattle.session.specs.declared.Act.{Act}
 use Rattle.session.specs.declared.Act.the-variants.{Refused, Accepted, Happens}
 use Rattle.session.specs.declared.Stop.the-variants.{Full, Bad, Cut, End}
 use Rattle.session.specs.Text.{numeral, refusalLine, summaryLine, lineOfPort, portLines}
 use Rattle.session.specs.Run.{entry, start, applied, lineOf, closing, printed, fedOf}
-use Rattle.session.specs.Blocks.{InBlocks, none, block}
+use Rattle.session.specs.Blocks.{none, block}
 use Rattle.session.specs.Acts.{actBy}
 use Rattle.session.proofs.Beside.{Eight}
 use Rattle.session.proofs.Acted.{Acted, refused, accepted, happened}

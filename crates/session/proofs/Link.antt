@@ -2,7 +2,7 @@
 use Prim.Native.Nat.{ℕ, zero, suc, _+_, _-_, _/_, _≤_, _<_}
 use native.Mathlib.Omega.{arith}
 use mathlib.Core.Path.{_≡_, refl, sym, ap, _∙_}
-use mathlib.Core.Bool.{Bool, true, false, cond}
+use mathlib.Core.Bool.{true, false}
 use mathlib.Core.List.{List, [], _∷_, _++_, append-assoc, append-nil}
 use lib.ListN.{length, getD, take, drop, length-drop, take-append-drop}
 use lib.Seq.{drop-drop, length-take-le}
@@ -18,7 +18,7 @@ use Rattle.session.specs.declared.Stop.{Stop}
 use Rattle.session.specs.declared.Stop.the-variants.{Full}
 use Rattle.session.specs.declared.Act.{Act}
 use Rattle.session.specs.declared.Fed.{Fed}
-use Rattle.record.specs.Format.{portOf, clockOf, lengthOf, sizeOf, Form, nothing, part, bad, whole, form}
+use Rattle.record.specs.Format.{portOf, clockOf, lengthOf, sizeOf, Form, whole, form}
 use Rattle.session.specs.Text.{Written}
 use Rattle.session.specs.Run.{
   Entry,

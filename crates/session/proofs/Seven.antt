@@ -1,6 +1,6 @@
 -- The safe values lent are right, so that no record is answered 7 (R27). Assumes nothing.
 use Prim.Native.Nat.{ℕ, zero, suc}
-use mathlib.Core.Path.{_≡_, refl, sym, ap, _∙_}
+use mathlib.Core.Path.{_≡_, refl, ap, _∙_}
 use mathlib.Core.Bool.{Bool, true, false, cond, not, _&&_}
 use mathlib.Core.List.{List, [], _∷_}
 use lib.Dec.{eqb}
@@ -10,7 +10,6 @@ use Rattle.answer.specs.declared.Answer.{Answer}
 use Rattle.answer.specs.declared.Answer.the-variants.{Taken}
 use Rattle.answer.specs.Answers.{numberOf, isTaken}
 use Rattle.answer.specs.Rules.{Rule, rule, refused, answerBy}
-use Rattle.block.specs.declared.Params.{Params}
 use Rattle.spdu.specs.Places.{processOctets, allZero}
 use Rattle.spdu.specs.Image.{safeValuesHold}
 use Rattle.bench.specs.declared.Port.{Port}
@@ -18,7 +17,7 @@ use Rattle.bench.specs.declared.Bench.{Bench}
 use Rattle.bench.specs.Ports.{portAt}
 use Rattle.bench.specs.History.{Call, SetParameters, ReceiveResponse, Clock, Operator, portOf, rulesOf, answerOf}
 use Rattle.bench.proofs.Answers.{answer-is}
-use Rattle.scl.proofs.Cases.{cond-case, and-left, and-right}
+use Rattle.scl.proofs.Cases.{and-left, and-right}
 use Rattle.session.specs.Run.{Entry, safeIn, safeOut, setSDIn, ackIn, callOf}
 
 abbrev pub isSeven : Answer → Bool

@@ -31,7 +31,7 @@ use Rattle.bench.proofs.Taken.{taken-is}
 use Rattle.bench.proofs.Answers.{response-length}
 use Rattle.session.specs.declared.Act.{Act}
 use Rattle.session.specs.declared.Act.the-variants.{Refused, Accepted, Happens}
-use Rattle.session.specs.Run.{Entry, safeIn, safeOut, setSDIn, ackIn, callBy, callOf}
+use Rattle.session.specs.Run.{Entry, safeIn, safeOut, setSDIn, ackIn, callOf}
 use Rattle.session.specs.Acts.{rulesOf, blockAct, callAct, happeningBy, actBy, answerIn, placeOf}
 use Rattle.session.proofs.Seven.{lent, call}
 

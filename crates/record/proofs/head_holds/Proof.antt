@@ -1,5 +1,4 @@
 -- `record::head_holds` meets its contract. Assumes nothing.
-use borrow.Author.Tests.{lt-ltb, le-ltb, le-leb, lt-leb, eq-eqb, ne-eqb}
 use borrow.Author.Needs.{needs}
 use Rattle.record.proofs.head_holds.Statement.{statement}
 use Rattle.record.proofs.head_holds.Tie as tie

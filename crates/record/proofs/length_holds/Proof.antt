@@ -1,5 +1,5 @@
 -- `record::length_holds` meets its contract. Assumes nothing.
-use borrow.Author.Tests.{lt-ltb, le-ltb, le-leb, lt-leb, eq-eqb, ne-eqb}
+use borrow.Author.Tests.{eq-eqb, ne-eqb}
 use Rattle.record.proofs.length_holds.Statement.{statement}
 use Rattle.record.proofs.length_holds.Tie as tie
 

@@ -1,4 +1,3 @@
-use borrow.Author.Tests.{lt-ltb, le-ltb, le-leb, lt-leb, eq-eqb, ne-eqb}
 use mathlib.Core.Path.{refl}
 use Rattle.bench.specs.Ports.{silent}
 use Rattle.bench.proofs.at_port.silent.Statement.{statement}

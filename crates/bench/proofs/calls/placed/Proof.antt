@@ -1,4 +1,3 @@
-use borrow.Author.Tests.{lt-ltb, le-ltb, le-leb, lt-leb, eq-eqb, ne-eqb}
 use Rattle.bench.specs.Calls.{placed}
 use Rattle.bench.specs.History.{after}
 use borrow.Author.Needs.{needs}

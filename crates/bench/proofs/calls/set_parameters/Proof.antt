@@ -1,4 +1,3 @@
-use borrow.Author.Tests.{lt-ltb, le-ltb, le-leb, lt-leb, eq-eqb, ne-eqb}
 use borrow.Author.Needs.{needs}
 use Rattle.bench.proofs.calls.set_parameters.Statement.{statement}
 use Rattle.bench.proofs.calls.set_parameters.Tie as tie

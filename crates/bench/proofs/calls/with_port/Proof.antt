@@ -1,6 +1,5 @@
 use native.Mathlib.Omega.{arith}
 use Rattle.bench.proofs.Index.{known-range}
-use borrow.Author.Tests.{lt-ltb, le-ltb, le-leb, lt-leb, eq-eqb, ne-eqb}
 use Rattle.bench.specs.Ports.{withPort}
 use borrow.Author.Needs.{needs}
 use Rattle.bench.proofs.calls.with_port.Statement.{statement}

@@ -1,6 +1,4 @@
-use borrow.Author.Tests.{lt-ltb, le-ltb, le-leb, lt-leb, eq-eqb, ne-eqb}
 use Rattle.bench.specs.Images.{composeAnswer, composed}
-use Rattle.bench.specs.Ports.{portAt, noPort}
 use borrow.Author.Needs.{needs}
 use Rattle.bench.proofs.images.compose.Statement.{statement}
 use Rattle.bench.proofs.images.compose.Tie as tie

@@ -1,4 +1,3 @@
-use borrow.Author.Tests.{lt-ltb, le-ltb, le-leb, lt-leb, eq-eqb, ne-eqb}
 use Rattle.bench.specs.Ports.{portAt}
 use Rattle.bench.specs.Shown.{deviceOf}
 use borrow.Author.Needs.{needs}

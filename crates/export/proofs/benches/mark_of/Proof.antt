@@ -1,5 +1,4 @@
 -- `export::benches::mark_of` meets its contract. Assumes nothing.
-use borrow.Author.Needs.{needs}
 use Rattle.export.specs.Benches.{markOf}
 use Rattle.export.proofs.benches.mark_of.Statement.{statement}
 use Rattle.export.proofs.benches.mark_of.Tie as tie

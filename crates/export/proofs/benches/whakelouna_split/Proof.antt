@@ -1,4 +1,3 @@
-use borrow.Author.Tests.{lt-ltb, le-ltb, le-leb, lt-leb, eq-eqb, ne-eqb}
 use borrow.Author.Needs.{needs}
 use Rattle.export.proofs.benches.whakelouna_split.Statement.{statement}
 use Rattle.export.proofs.benches.whakelouna_split.Tie as tie

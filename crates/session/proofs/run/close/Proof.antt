@@ -1,6 +1,6 @@
 -- `session::run::close` meets its contract. Assumes nothing.
 use native.Mathlib.Omega.{arith}
-use Rattle.session.proofs.Written.{then, none, from-front}
+use Rattle.session.proofs.Written.{then}
 use Rattle.session.specs.Run.{closing}
 use borrow.Author.Needs.{needs}
 use Rattle.session.proofs.run.close.Statement.{statement}

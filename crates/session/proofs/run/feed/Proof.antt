@@ -1,9 +1,8 @@
 -- `session::run::feed` meets its contract: the columns hold the ports of the bench. Assumes nothing.
 use borrow.Author.Needs.{needs}
 use native.Mathlib.Omega.{arith}
-use Prim.Native.Nat.{ℕ, _+_, _-_, _≤_, _<_}
+use Prim.Native.Nat.{_+_, _-_, _≤_}
 use mathlib.Core.Path.{_≡_, refl, sym, ap, _∙_}
-use mathlib.Core.Bool.{Bool}
 use mathlib.Core.List.{List}
 use lib.ListN.{length, getD, set, take, length-set, length-map}
 use Rattle.histogram.specs.Counted.{totalsOf}
@@ -13,7 +12,7 @@ use Rattle.bench.specs.Ports.{noPort}
 use Rattle.session.specs.declared.State.{State}
 use denote.Ref.{now}
 use Rattle.session.specs.Run.{fedOf, fedText}
-use Rattle.session.specs.Columns.{joined, portsOf, packed, stateOf}
+use Rattle.session.specs.Columns.{portsOf, packed, stateOf}
 use Rattle.session.proofs.Beside.{Eight, set-columns, length-columns, one-more, all}
 use Rattle.session.proofs.run.feed.Statement.{statement}
 use Rattle.session.proofs.run.feed.Tie as tie

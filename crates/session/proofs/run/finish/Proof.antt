@@ -4,8 +4,8 @@ use mathlib.Core.Path.{refl, sym}
 use lib.ListN.{length}
 use lib.Seq.{length-take-le}
 use native.Mathlib.Omega.{arith}
-use borrow.Author.Tests.{lt-ltb, le-ltb, eq-eqb, ne-eqb}
-use Rattle.session.proofs.Written.{then, none, from-front}
+use borrow.Author.Tests.{lt-ltb, le-ltb}
+use Rattle.session.proofs.Written.{from-front}
 use Rattle.session.specs.Run.{finishText}
 use borrow.Author.Needs.{needs}
 use Rattle.session.proofs.run.finish.Statement.{statement}

@@ -1,6 +1,6 @@
 -- `session::run::say` meets its contract. Assumes nothing.
 use native.Mathlib.Omega.{arith}
-use Rattle.session.proofs.Written.{then, none, from-front}
+use Rattle.session.proofs.Written.{none}
 use borrow.Author.Needs.{needs}
 use Rattle.session.proofs.run.say.Statement.{statement}
 use Rattle.session.proofs.run.say.Tie as tie

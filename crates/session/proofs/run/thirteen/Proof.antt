@@ -1,6 +1,6 @@
 -- `session::run::thirteen` meets its contract. Assumes nothing.
 use native.Mathlib.Omega.{arith}
-use Rattle.session.proofs.Written.{then, none, from-front}
+use Rattle.session.proofs.Written.{none}
 use borrow.Author.Needs.{needs}
 use Rattle.session.proofs.run.thirteen.Statement.{statement}
 use Rattle.session.proofs.run.thirteen.Tie as tie

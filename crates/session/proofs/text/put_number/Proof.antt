@@ -1,11 +1,6 @@
 -- `session::text::put_number` meets its contract: the digits that `io::decimal` spells are the numeral. Assumes nothing.
 use native.Mathlib.Omega.{arith}
-use mathlib.Core.Path.{_≡_, ap, _∙_}
-use mathlib.Core.List.{List, _++_}
-use Prim.Native.Nat.{ℕ}
-use lib.ListN.{take, length}
-use denote.Ref.{now}
-use Rattle.session.specs.Text.{Written, numeral}
+use mathlib.Core.Path.{_∙_}
 use Rattle.session.proofs.Numeral.{numeral-of, few}
 use borrow.Author.Needs.{needs}
 use Rattle.session.proofs.text.put_number.Statement.{statement}
