@@ -1,8 +1,12 @@
 // Reads a session from standard input, in blocks, and prints what it comes to (document 01, "The session program"). What is right is in the
-// contracts of `session`; here it is proved that no step goes wrong and that the program ends.
+// contracts of `session`; here it is proved that no step goes wrong, that the program ends, what `move_front` leaves in the buffer, and what `finish`
+// makes of the number of octets that are left.
 ghost use mathlib.Core.Path.{_≡_};
-ghost use Prim.Native.Nat.{_≤_};
+ghost use Prim.Native.Nat.{_-_, _≤_};
+ghost use lib.Dec.{ltb};
 ghost use lib.ListN.{length};
+ghost use Rattle.portbench.specs.Kept as kept;
+ghost use Rattle.session.specs.Run as runs;
 use libc::STDERR_FILENO;
 use libc::STDIN_FILENO;
 use libc::STDOUT_FILENO;
@@ -34,6 +38,7 @@ fn after(state: State, left: usize, going: Going) -> Block
 fn move_front(buf: &mut [u8], from: usize, to: usize)
     requires { ⌜ from ≤ to ⌝ }
     requires { ⌜ to ≤ length (now buf) ⌝ }
+    ensures { λ _. ⌜ now (buf .exit) ≡ kept.toFront from (to - from) (now (buf .entry)) ⌝ }
 {
     let mut i = 0;
     while i < to - from {
@@ -94,8 +99,11 @@ fn read_block(st: State, buf: &mut [u8], have: usize, out: &mut [u8]) -> Block
     take_records(st, buf, have + n, out)
 }
 
-fn finish(st: State, some: bool, out: &mut [u8]) {
-    let n = session::finish(st, some, out);
+// `have`: how many octets are left behind the last whole record; where there are some, they are a 13.
+fn finish(st: State, have: usize, out: &mut [u8])
+    ensures { λ _. ⌜ now (out .exit) ≡ runs.fronted (runs.finishText st (ltb 0 have) (length (now (out .entry)))) (now (out .entry)) ⌝ }
+{
+    let n = session::finish(st, have > 0, out);
     io::write_all(STDOUT_FILENO, &out[..n]);
 }
 
@@ -116,7 +124,7 @@ fn run(buf: &mut [u8], out: &mut [u8]) {
         match going {
             Going::On => {}
             Going::Over => {
-                finish(st, have > 0, out);
+                finish(st, have, out);
                 return;
             }
             Going::Stopped => {
