@@ -9,3 +9,4 @@ pub mod Release
 pub mod Never
 pub mod HandedOn
 pub mod Showing
+pub mod Arises
