@@ -7,7 +7,7 @@ use lib.Dec.{eqb, leb}
 use lib.ListN.{length, take}
 use Rattle.answer.specs.declared.Answer.{Answer}
 use Rattle.answer.specs.declared.Answer.the-variants.{Taken, NoSamples}
-use Rattle.answer.specs.Rules.{answerBy, refused}
+use Rattle.answer.specs.Rules.{refused}
 use Rattle.ranges.specs.Fields.{outside}
 use Rattle.block.specs.declared.Params.{Params}
 use Rattle.scl.specs.declared.Happening.{Happening}
@@ -19,7 +19,6 @@ use Rattle.histogram.specs.Trends as trends
 use Rattle.histogram.proofs.Counting.{frozen-mark}
 use Rattle.histogram.proofs.Trends as trendProofs
 use Rattle.bench.specs.declared.Port.{Port}
-use Rattle.bench.specs.Calls.{callRules}
 use Rattle.bench.specs.Shown.{seen, trendOf, binsOf}
 use Rattle.bench.specs.History.{samples, StandsSince}
 
@@ -28,9 +27,6 @@ unfolding trends.trendOf
 trend-by h = cond-both (λ (a : Answer) (t : Trend). a ≡ t .answer) (eqb (h .total) 0) refl refl
 
 module _ (q : ℕ) (known : outside 1 8 q ≡ false) (p : Port) (at : ℕ) (params : Params) (past : List Happening) (s : StandsSince p at params past) where
-  runs : answerBy Taken (callRules q p) ≡ Taken
-  runs = simp (known, s .running)
-
   shows : seen q p ≡ p
   unfolding seen
   shows = simp (known, s .running)

@@ -57,7 +57,8 @@ otherPart port p octets = unlessRefused port p (image.otherPart (p .params) octe
 abbrev pub handedOn : Port → Mark → List ℕ → List ℕ → List ℕ
 handedOn p mark spdu safe = image.handedOn mark (p .params .«FSP_ProtMode») spdu safe
 
--- the same, copied to the front of a buffer that has room for it: the answer, 7 where there is none, with how many octets are handed on
+-- the same, copied to the front of a buffer that has room for it, as a caller in C has it (docs/DECISIONS.md): 8, 9, and 7 where there is no room (R27);
+-- with how many octets are handed on
 unfoldable pub handedTo : ℕ → Port → Mark → List ℕ → List ℕ → ℕ → Handed
 handedTo port p mark spdu safe room =
     let n = length (handedOn p mark spdu safe) in

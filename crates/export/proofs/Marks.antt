@@ -3,10 +3,10 @@ use mathlib.Core.Path.{_≡_, refl}
 use Rattle.scl.specs.declared.Mark.{Mark}
 use Rattle.scl.specs.declared.Mark.the-variants.{Fresh, GoesOn, Safe, Nothing}
 use Rattle.scl.specs.Happenings.{markNumberOf}
-use Rattle.export.specs.Benches.{markOf}
+use Rattle.export.specs.Benches.{markNumbered}
 
-pub mark-back : (m : Mark) → markOf (markNumberOf m) ≡ m
-unfolding markOf
+pub mark-back : (m : Mark) → markNumbered (markNumberOf m) ≡ m
+unfolding markNumbered
 mark-back Fresh = refl
 mark-back GoesOn = refl
 mark-back Safe = refl

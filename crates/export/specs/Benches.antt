@@ -47,8 +47,8 @@ splitTold port p octets = record {
 }
 
 -- the mark that a number stands for (`markNumberOf`); a number that stands for none hands on nothing
-unfoldable pub markOf : ℕ → Mark
-markOf n = cond (eqb n 0) Fresh (cond (eqb n 1) GoesOn (cond (eqb n 2) Safe Nothing))
+unfoldable pub markNumbered : ℕ → Mark
+markNumbered n = cond (eqb n 0) Fresh (cond (eqb n 1) GoesOn (cond (eqb n 2) Safe Nothing))
 
 abbrev pub handedTold : Handed → HandedTold
 handedTold h = record { number = numberOf (h .answer); octets = h .octets }

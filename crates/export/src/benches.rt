@@ -198,8 +198,8 @@ pub extern "C" fn whakelouna_split(bench: Bench, port: u8, octets: &[u8]) -> Spl
     }
 }
 
-fn mark_of(number: u8) -> Mark
-    ensures { λ r. ⌜ r ≡ told.markOf number ⌝ }
+fn mark_numbered(number: u8) -> Mark
+    ensures { λ r. ⌜ r ≡ told.markNumbered number ⌝ }
 {
     let fresh = number == 0;
     let goes_on = number == 1;
@@ -226,10 +226,10 @@ pub extern "C" fn whakelouna_handed_on<'a>(
     safe: &'a [u8],
     out: &mut [u8],
 ) -> HandedTold
-    ensures { λ r. ⌜ r ≡ told.handedTold (images.handedTo port (portAt bench port) (told.markOf mark) (now (spdu .entry)) (now (safe .entry)) (length (now (out .entry)))) ⌝ }
-    ensures { λ _. ⌜ now (out .exit) ≡ images.handedOut port (portAt bench port) (told.markOf mark) (now (spdu .entry)) (now (safe .entry)) (now (out .entry)) ⌝ }
+    ensures { λ r. ⌜ r ≡ told.handedTold (images.handedTo port (portAt bench port) (told.markNumbered mark) (now (spdu .entry)) (now (safe .entry)) (length (now (out .entry)))) ⌝ }
+    ensures { λ _. ⌜ now (out .exit) ≡ images.handedOut port (portAt bench port) (told.markNumbered mark) (now (spdu .entry)) (now (safe .entry)) (now (out .entry)) ⌝ }
 {
-    let handed = bench::hand_on(bench, port, mark_of(mark), spdu, safe, out);
+    let handed = bench::hand_on(bench, port, mark_numbered(mark), spdu, safe, out);
     let answer = handed.answer;
     HandedTold {
         number: answer::number(answer),
