@@ -20,16 +20,16 @@ abbrev pub code : Answer → ℕ
 code a = numberOf a * 256 + offsetOf a
 
 -- the codes of the rules' answers, in their order
-abbrev pub codes : List Rule → List ℕ
+abbrev codes : List Rule → List ℕ
 codes [] = []
 codes (rule b a ∷ rules) = code a ∷ codes rules
 
-abbrev pub absent : ℕ → List ℕ → Bool
+abbrev absent : ℕ → List ℕ → Bool
 absent x [] = true
 absent x (y ∷ ys) = not (eqb x y) && absent x ys
 
 -- no number twice: a test that antt computes
-abbrev pub distinct : List ℕ → Bool
+abbrev distinct : List ℕ → Bool
 distinct [] = true
 distinct (x ∷ xs) = absent x xs && distinct xs
 
@@ -96,7 +96,7 @@ takes (rule true a ∷ rules) k = absurd (true≢false (k .each 0))
 takes (rule false a ∷ rules) k = takes rules (record { each = λ j. k .each (suc j) })
 
 -- no rule's answer is TAKEN
-abbrev pub refusing : List Rule → Bool
+abbrev refusing : List Rule → Bool
 refusing [] = true
 refusing (rule b a ∷ rules) = not (isTaken a) && refusing rules
 

@@ -1,52 +1,83 @@
--- What the bench's theorems ask is met by one list of calls, computed: a parameter block for port 1, the response that releases at its FS-Master, and
--- the four requests of which the last releases at its FS-Device. Assumes nothing.
+-- What the bench's theorems ask is met by one list of calls, computed: a parameter block for port 1, the response that releases at its FS-Master, a
+-- damaged request, and the five requests of which the last releases at its FS-Device. Assumes nothing.
 use Prim.Native.Nat.{ℕ, _<_}
+use native.Mathlib.Omega.{arith}
 use mathlib.Core.Path.{_≡_, refl}
 use mathlib.Core.Bool.{true, false}
-use mathlib.Core.List.{List, [], _∷_}
+use mathlib.Core.List.{List, [], _∷_, _++_}
+use lib.ListN.{length, take, getD}
+use Rattle.answer.specs.declared.Answer.the-variants.{NoPort}
 use Rattle.answer.specs.Answers.{isTaken}
 use Rattle.block.specs.Table22.{paramsOf}
 use Rattle.block.proofs.Arises.{good, octets-of}
 use Rattle.signature.specs.Signature as signing
 use Rattle.spdu.specs.Signature.{byBits}
 use Rattle.spdu.specs.Fields.{responseBy, requestBy}
+use Rattle.spdu.specs.Image.{handedOn}
 use Rattle.scl.specs.Time.{elapsedOf}
+use Rattle.scl.specs.declared.Request.{Request}
+use Rattle.scl.specs.declared.Response.{Response}
+use Rattle.scl.specs.declared.Mark.{Mark}
+use Rattle.scl.specs.declared.Mark.the-variants.{Fresh}
 use Rattle.scl.specs.declared.Happening.{Happening}
 use Rattle.scl.specs.declared.Happening.the-variants as happening
 use Rattle.fs_master.specs.Table38 as table38
 use Rattle.fs_master.specs.Calls as masters
+use Rattle.fs_master.specs.History as masterSpecs
 use Rattle.fs_master.specs.History.{masterAfter, judgedIn, passesBy, hasPassed, None, fault}
 use Rattle.fs_device.specs.Table40 as table40
 use Rattle.fs_device.specs.Calls as devices
-use Rattle.fs_device.specs.History.{passedSince}
+use Rattle.fs_device.specs.History as deviceSpecs
+use Rattle.fs_device.specs.History.{deviceAfter, passedSince, hadErrorOrTimeout}
+use Rattle.histogram.specs.Samples.{limit, sumOf, lowestOf, highestOf}
 use Rattle.histogram.specs.Counted as counted
+use Rattle.histogram.specs.Trends.{Shows}
 use Rattle.bench.specs.declared.Port.{Port}
 use Rattle.bench.specs.Ports.{newPort, acceptedPort, newBench, noPort, portAt, withPort, tallied, stepOf, silent}
 use Rattle.bench.specs.Calls as calls
 use Rattle.bench.specs.Images.{composeAnswer, composed, buildAnswer, responseOut}
-use Rattle.bench.specs.History.{Call, SetParameters, ReceiveResponse, ReceiveRequest, Clock, portOf, answerOf, after, history, goesOn, extended, since, sinceBlock, oldBy, sentSince, answered, timeOf, isSample, samples, Arising, blockIn, OctetsIn, no-call, one-more}
-use Rattle.bench.proofs.Answers.{refused-same, compose-refused, build-refused}
-use Rattle.bench.proofs.Release.{passed-first, acknowledged, cycles-first}
+use Rattle.bench.specs.Shown.{trendOf}
+use Rattle.bench.specs.History.{Call, SetParameters, ReceiveResponse, ReceiveRequest, Clock, portOf, answerOf, after, history, goesOn, extended, since, sinceBlock, oldBy, sentSince, answered, timeOf, isSample, samples, StandsSince, Stands, Arising, blockIn, OctetsIn, no-call, one-more}
+use Rattle.bench.proofs.Answers.{refused-same, left-out, compose-refused, build-refused}
+use Rattle.bench.proofs.AtPort.{eight, takenAt, taken-at, other-at}
+use Rattle.bench.proofs.History.{stands}
+use Rattle.bench.proofs.Release.{passed-first, acknowledged, cycles-first, after-error}
+use Rattle.bench.proofs.Showing.{trend-shown}
+use Rattle.bench.proofs.HandedOn as handing
 use Rattle.bench.proofs.Never.{arising}
 
 -- an SPDU to and from port 1, with this control or status octet and signature
 abbrev spdu : ℕ → ℕ → ℕ → List ℕ
 spdu octet high low = 0x2A ∷ 1 ∷ octet ∷ high ∷ low ∷ []
 
+abbrev safe : List ℕ
+safe = 0 ∷ []
+
 -- DCount_i 7, no signal set
 abbrev response : List ℕ
 response = spdu 0xE0 0x3A 0x0F
 
--- the latest first: MCount 3, 2, 1, 0
-abbrev worked : List Call
-worked =
-    ReceiveRequest 1 1050 (spdu 0x60 0xBB 0xB0) (0 ∷ [])
-    ∷ ReceiveRequest 1 1040 (spdu 0x40 0xC8 0x75) (0 ∷ [])
-    ∷ ReceiveRequest 1 1030 (spdu 0x20 0x5C 0x3A) (0 ∷ [])
-    ∷ ReceiveRequest 1 1020 (spdu 0x00 0x2F 0xFF) (0 ∷ [])
-    ∷ ReceiveResponse 1 1010 response (0 ∷ [])
-    ∷ SetParameters 1 1000 good
+-- MCount 5
+abbrev request : List ℕ
+request = spdu 0xA0 0xDD 0x85
+
+abbrev accepted : Call
+accepted = SetParameters 1 1000 good
+
+-- the latest first: MCount 4, 3, 2, 1, and 0 with a damaged signature
+abbrev earlier : List Call
+earlier =
+    ReceiveRequest 1 1060 (spdu 0x80 0xAE 0x40) safe
+    ∷ ReceiveRequest 1 1050 (spdu 0x60 0xBB 0xB0) safe
+    ∷ ReceiveRequest 1 1040 (spdu 0x40 0xC8 0x75) safe
+    ∷ ReceiveRequest 1 1030 (spdu 0x20 0x5C 0x3A) safe
+    ∷ ReceiveRequest 1 1020 (spdu 0x00 0x2F 0xFE) safe
+    ∷ ReceiveResponse 1 1010 response safe
+    ∷ accepted
     ∷ []
+
+abbrev worked : List Call
+worked = ReceiveRequest 1 1070 request safe ∷ earlier
 
 abbrev requested : ℕ → List ℕ → Happening
 requested at octets = happening.Request at (requestBy byBits (paramsOf good) octets)
@@ -54,14 +85,22 @@ requested at octets = happening.Request at (requestBy byBits (paramsOf good) oct
 -- what happened at port 1 since its block
 abbrev past : List Happening
 past =
-    requested 1050 (spdu 0x60 0xBB 0xB0)
+    requested 1070 request
+    ∷ requested 1060 (spdu 0x80 0xAE 0x40)
+    ∷ requested 1050 (spdu 0x60 0xBB 0xB0)
     ∷ requested 1040 (spdu 0x40 0xC8 0x75)
     ∷ requested 1030 (spdu 0x20 0x5C 0x3A)
-    ∷ requested 1020 (spdu 0x00 0x2F 0xFF)
+    ∷ requested 1020 (spdu 0x00 0x2F 0xFE)
     ∷ happening.Response 1010 (responseBy byBits (paramsOf good) response)
     ∷ []
 
--- port 1 after the calls, and one that does not run
+-- port 1 after the block, before the last call and after it, and a call to a port that does not run
+abbrev begun : Port
+begun = portAt (history (accepted ∷ [])) 1
+
+abbrev before : Port
+before = portAt (history earlier) 1
+
 abbrev port : Port
 port = portAt (history worked) 1
 
@@ -74,21 +113,35 @@ record Asked : Type 0 where
   runs : port .running ≡ true
   master-releases : port .master .released ≡ true
   device-releases : port .device .released ≡ true
+  had-error : hadErrorOrTimeout 1000 100 past ≡ true
+  last-taken : isTaken (answerOf (history earlier) (ReceiveRequest 1 1070 request safe)) ≡ true
   clock-refused : isTaken (answerOf newBench refused) ≡ false
-  -- of `trend-shown`
   one-sample : samples 1000 100 past ≡ 10 ∷ []
 
 asked : Asked
-unfolding samples isSample timeOf sentSince answered oldBy masterAfter judgedIn passesBy sinceBlock extended goesOn portOf answerOf after history calls.placed calls.settled calls.parametersAs portAt withPort newBench newPort noPort acceptedPort stepOf tallied silent signing.signature signing.octet signing.shiftInAll signing.shiftIn elapsedOf table38.watchdogRow table38.isOld table38.isTaken table38.checked table38.from8 table38.arrivalRow table38.taken table38.sampleFrom table38.t4 table38.acted masters.judged masters.quiet masters.arrived masters.received masters.watched masters.stepOf table40.watchdogRow table40.isTaken table40.checked table40.arrivalRow table40.taken table40.t22 table40.acted devices.judged devices.quiet devices.arrived devices.received devices.watched devices.stepOf counted.frozenOf counted.withSample counted.countedOf
-asked = record { block = refl; runs = refl; master-releases = refl; device-releases = refl; clock-refused = refl; one-sample = refl }
+unfolding hadErrorOrTimeout deviceAfter samples isSample timeOf sentSince answered oldBy masterAfter judgedIn passesBy sinceBlock extended goesOn portOf answerOf after history calls.placed calls.settled calls.parametersAs portAt withPort newBench newPort noPort acceptedPort stepOf tallied silent signing.signature signing.octet signing.shiftInAll signing.shiftIn elapsedOf table38.watchdogRow table38.isOld table38.isTaken table38.checked table38.from8 table38.arrivalRow table38.taken table38.sampleFrom table38.t4 table38.acted masters.judged masters.quiet masters.arrived masters.received masters.watched masters.stepOf table40.watchdogRow table40.isTaken table40.checked table40.arrivalRow table40.taken table40.t22 table40.t25 table40.t28 table40.t29 table40.acted devices.judged devices.quiet devices.arrived devices.received devices.watched devices.stepOf counted.frozenOf counted.withSample counted.countedOf
+asked = record {
+  block = refl;
+  runs = refl;
+  master-releases = refl;
+  device-releases = refl;
+  had-error = refl;
+  last-taken = refl;
+  clock-refused = refl;
+  one-sample = refl;
+}
 
 -- blocks of octets
 octets-met : OctetsIn worked
 unfolding blockIn
 octets-met =
-    one-more (octets-of [] refl) (one-more (octets-of [] refl) (one-more (octets-of [] refl) (one-more (octets-of [] refl) (one-more (octets-of [] refl) (one-more (octets-of good refl) no-call)))))
+    one-more none (one-more none (one-more none (one-more none (one-more none (one-more none (one-more none (one-more (octets-of good refl) no-call)))))))
+  where
+    none : (i : ℕ) → getD [] i 0 < 256
+    none = octets-of [] refl
 
--- the theorems, of these calls
+-- ---- the theorems, of these calls
+
 pub arising-met : Arising 1 port
 arising-met = arising 1 refl worked octets-met (asked .runs)
 
@@ -101,8 +154,32 @@ acknowledged-met = acknowledged 1 refl worked 1000 (paramsOf good) past (asked .
 pub cycles-first-met : 3 < passedSince 1000 100 past
 cycles-first-met = cycles-first 1 refl worked 1000 (paramsOf good) past (asked .block) (asked .device-releases)
 
+pub after-error-met : 4 < passedSince 1000 100 past
+after-error-met = after-error 1 refl worked 1000 (paramsOf good) past (asked .block) (asked .had-error) (asked .device-releases)
+
+stands-met : StandsSince port 1000 (paramsOf good) past
+unfolding Stands
+stands-met = rw (asked .block) at (stands 1 refl worked)
+
+pub trend-shown-met :
+    let counted = take limit (samples 1000 100 past) in
+    Shows (sumOf counted) (length counted) (lowestOf counted) (highestOf counted) (trendOf 1 port .point)
+trend-shown-met = trend-shown 1 refl port 1000 (paramsOf good) past stands-met (rw (asked .one-sample) (omega arith))
+
 pub refused-same-met : after newBench refused ≡ newBench
 refused-same-met = refused-same newBench refused (asked .clock-refused)
+
+pub left-out-met : history (worked ++ refused ∷ []) ≡ history (worked ++ [])
+unfolding history
+left-out-met = left-out worked refused [] (asked .clock-refused)
+
+pub taken-at-met : portAt (after (history earlier) (ReceiveRequest 1 1070 request safe)) 1 ≡ takenAt before (ReceiveRequest 1 1070 request safe)
+unfolding portOf
+taken-at-met = taken-at (history earlier) (eight earlier) (ReceiveRequest 1 1070 request safe) refl (asked .last-taken)
+
+pub other-at-met : portAt (after (history earlier) refused) 1 ≡ before
+unfolding portOf
+other-at-met = other-at (history earlier) (eight earlier) 1 refl refused refl
 
 -- buffers of a port that does not run
 pub compose-refused-met : composed 2 newPort [] [] (7 ∷ []) ≡ 7 ∷ []
@@ -112,3 +189,45 @@ compose-refused-met = compose-refused 2 newPort [] [] (7 ∷ []) refl
 pub build-refused-met : responseOut 2 newPort [] (7 ∷ []) ≡ 7 ∷ []
 unfolding buildAnswer newPort
 build-refused-met = build-refused 2 newPort [] (7 ∷ []) refl
+
+-- ---- what is handed on: process octets by the response and the last request, safe values before
+
+abbrev handed : Mark → List ℕ → List ℕ
+handed mark octets = handedOn mark 1 octets safe
+
+abbrev read : Response
+read = responseBy byBits (paramsOf good) response
+
+abbrev readRequest : Request
+readRequest = requestBy byBits (paramsOf good) request
+
+pub record Handed : Type 0 where
+  response-hands-on : handed (calls.responseAt 1 begun 1010 read safe .reply .master) response ≡ 0x2A ∷ []
+  request-hands-on : handed (calls.requestAt 1 before 1070 readRequest safe .reply .device) request ≡ 0x2A ∷ []
+  clock-hands-on-in : handed (calls.clockAt 1 begun 1005 safe safe .reply .master) [] ≡ safe
+  clock-hands-on-out : handed (calls.clockAt 1 begun 1005 safe safe .reply .device) [] ≡ safe
+  operator-hands-on : handed (calls.operatorAt 1 begun 1005 true false safe .reply .master) [] ≡ safe
+  refused-hands-on : calls.settled begun NoPort (happening.Clock 1005) .reply ≡ silent NoPort
+  master-fresh-only : masterSpecs.FreshBy (begun .master) (begun .params .«FSP_WatchdogTime») (happening.Response 1010 read)
+  device-fresh-only : deviceSpecs.FreshBy (before .device) (before .params .«FSP_WatchdogTime») (happening.Request 1070 readRequest)
+
+pub handed-met : Handed
+unfolding portOf answerOf after history calls.placed calls.settled calls.parametersAs portAt withPort newBench newPort noPort acceptedPort stepOf tallied silent signing.signature signing.octet signing.shiftInAll signing.shiftIn elapsedOf table38.watchdogRow table38.isOld table38.isTaken table38.checked table38.from8 table38.arrivalRow table38.taken table38.sampleFrom table38.t4 table38.acted masters.judged masters.quiet masters.arrived masters.received masters.watched masters.operated table38.signalled masters.stepOf table40.watchdogRow table40.isTaken table40.checked table40.arrivalRow table40.taken table40.t22 table40.t25 table40.t28 table40.t29 table40.acted devices.judged devices.quiet devices.arrived devices.received devices.watched devices.stepOf counted.frozenOf counted.withSample counted.countedOf
+handed-met = record {
+  response-hands-on = handing.response-hands-on 1 begun 1010 read response safe refl;
+  request-hands-on = handing.request-hands-on 1 before 1070 readRequest request safe refl;
+  clock-hands-on-in = handing.clock-hands-on-in 1 begun 1005 safe safe refl;
+  clock-hands-on-out = handing.clock-hands-on-out 1 begun 1005 safe safe refl;
+  operator-hands-on = handing.operator-hands-on 1 begun 1005 true false safe refl;
+  refused-hands-on = handing.refused-hands-on begun NoPort (happening.Clock 1005) refl;
+  master-fresh-only = handing.master-fresh-only begun (happening.Response 1010 read) refl;
+  device-fresh-only = handing.device-fresh-only before (happening.Request 1070 readRequest) refl;
+}
+
+pub master-fresh-if-met : stepOf begun (happening.Response 1010 read) .reply .master ≡ Fresh
+unfolding masterSpecs.FreshBy
+master-fresh-if-met = handing.master-fresh-if begun 1010 read (handed-met .master-fresh-only .0)
+
+pub device-fresh-if-met : stepOf before (happening.Request 1070 readRequest) .reply .device ≡ Fresh
+unfolding deviceSpecs.FreshBy
+device-fresh-if-met = handing.device-fresh-if before 1070 readRequest (handed-met .device-fresh-only .0)

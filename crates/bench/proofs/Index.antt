@@ -26,7 +26,7 @@ known-range q e =
     let both : (leb 1 q && leb q 8) ≡ true = kept (leb 1 q && leb q 8) e in
     (leb-true 1 q (and-left (leb 1 q) (leb q 8) both), leb-true q 8 (and-right (leb 1 q) (leb q 8) both))
 
-pub with-length : (b : Bench) (port : ℕ) (p : Port) → length (withPort b port p .ports) ≡ length (b .ports)
+with-length : (b : Bench) (port : ℕ) (p : Port) → length (withPort b port p .ports) ≡ length (b .ports)
 unfolding withPort
 with-length b port p =
     cond-case (λ (n : Bench). length (n .ports) ≡ length (b .ports)) (outside 1 8 port) (λ _. refl) (λ _. length-set (b .ports) (port - 1) p)
@@ -38,13 +38,13 @@ new-at q =
     (λ e. let r = known-range q e in getD-replicate 8 (q - 1) newPort noPort (omega (arith, r .0, r .1)))
 
 module _ (b : Bench) (eight : length (b .ports) ≡ 8) (q : ℕ) (known : outside 1 8 q ≡ false) where
-  pub at-same : (p : Port) → portAt (withPort b q p) q ≡ p
+  at-same : (p : Port) → portAt (withPort b q p) q ≡ p
   unfolding portAt withPort
   at-same p =
       let r = known-range q known in
       simp known (getD-set-same (b .ports) (q - 1) p noPort (omega (arith, eight, r .0, r .1)))
 
-  pub at-other : (port : ℕ) (p : Port) → eqb port q ≡ false → portAt (withPort b port p) q ≡ portAt b q
+  at-other : (port : ℕ) (p : Port) → eqb port q ≡ false → portAt (withPort b port p) q ≡ portAt b q
   unfolding portAt withPort
   at-other port p e =
       let r = known-range q known in

@@ -1,4 +1,5 @@
--- Every answer to a block arises, and so the premises of `given`, `taken`, `taken-params` and `accepted` can be met: computed. Assumes nothing.
+-- Every answer to a block arises, and so the premises of `given`, `taken`, `taken-params`, `accepted` and `in-turn` can be met: computed. Assumes
+-- nothing.
 use mathlib.Core.Path.{_≡_, refl}
 use mathlib.Core.Bool.{true, and-eq-true-iff}
 use mathlib.Core.List.{List, [], _∷_, map}
@@ -9,14 +10,16 @@ use lib.Dec.{ltb, lit<}
 use lib.ListN.{drop, set}
 use lib.Pow.{areBytes}
 use Rattle.answer.specs.Answers.{numberOf, offsetOf}
-use Rattle.answer.specs.Rules.{First, Kept}
+use Rattle.answer.specs.declared.Answer.the-variants.{Taken}
+use Rattle.answer.specs.Rules.{answerBy, First, Kept}
 use Rattle.signature.specs.Signature.{shiftIn, shiftInAll, octet, signature}
 use Rattle.block.specs.Octets.{Octets}
-use Rattle.block.specs.Table22.{paramsOf}
+use Rattle.block.specs.Table22.{blockOf, computed, paramsOf}
 use Rattle.block.specs.Rules.{rulesOn, judged}
 use Rattle.block.specs.Accepted.{Accepted}
 use Rattle.block.proofs.Answered.{given, taken, taken-params}
 use Rattle.block.proofs.Bounds.{accepted}
+use Rattle.block.proofs.Whole.{inTurn, in-turn}
 
 pub octets-of : (s : List ℕ) → areBytes s ≡ true → Octets s
 octets-of [] h k = omega arith
@@ -88,3 +91,6 @@ taken-params-met = taken-params good 1 refl
 pub accepted-met : Accepted 1 (judged good 1 .params)
 unfolding signature octet shiftInAll shiftIn
 accepted-met = accepted good 1 (octets-of good refl) refl
+
+pub in-turn-met : inTurn (blockOf good) (computed good) 1 ≡ answerBy Taken (rulesOn good 1)
+in-turn-met = in-turn good 1 refl refl

@@ -1,12 +1,13 @@
--- One history of an FS-Device, worked out: every row, every check and every mark but that of a refusal arises, and so does each premise of the
--- theorems. Assumes nothing.
-use Prim.Native.Nat.{ℕ, zero, suc, _<_, _≤_, _^_}
+-- One history of an FS-Device, worked out: every row, every check and every mark but that of a refusal arises, and at calls of it the premises of the
+-- theorems are met. Assumes nothing.
+use Prim.Native.Nat.{ℕ, zero, suc, _<_}
 use native.Mathlib.Omega.{arith}
 use mathlib.Core.Path.{_≡_, refl}
-use mathlib.Core.Bool.{Bool, true, false, _||_}
+use mathlib.Core.Bool.{Bool, true, false}
 use mathlib.Core.List.{List, [], _∷_, map}
 use Rattle.scl.specs.Time.{elapsedOf}
-use Rattle.scl.specs.Happenings.{readingOf}
+use Rattle.scl.specs.Counts.{inverted}
+use Rattle.scl.specs.Moved.{movedHappening}
 use Rattle.scl.specs.declared.Happening.{Happening}
 use Rattle.scl.specs.declared.Happening.the-variants as happening
 use Rattle.scl.specs.declared.Request.{Request}
@@ -17,9 +18,12 @@ use Rattle.scl.specs.declared.Mark.the-variants.{Fresh, GoesOn, Safe}
 use Rattle.fs_device.specs.declared.Device.{Device}
 use Rattle.fs_device.specs.declared.Row.{Row}
 use Rattle.fs_device.specs.declared.Row.the-variants.{Stay, T22, T25, T28, T29, T30, T31}
-use Rattle.fs_device.specs.Table40.{watchdogRow, isOld, isTaken, checked, arrivalRow, taken, t22, t25, t28, t29, t30t31, acted}
+use Rattle.fs_device.specs.Table40.{watchdogRow, isTaken, checked, arrivalRow, taken, t22, t25, t28, t29, t30t31, acted}
 use Rattle.fs_device.specs.Calls.{judged, quiet, arrived, received, watched, stepOf, stands}
-use Rattle.fs_device.specs.History.{deviceAfter, passedSince, hadErrorOrTimeout, Releases, waits, sound}
+use Rattle.fs_device.specs.History.{FreshBy, deviceAfter, passedSince, hadErrorOrTimeout, movedDevice, movedOutcome}
+use Rattle.fs_device.proofs.Release as release
+use Rattle.fs_device.proofs.Faults as faults
+use Rattle.fs_device.proofs.Moved as moving
 
 -- an SPDU with this MCount and setSD, whose signature and port number hold or not
 abbrev request : ℕ → Bool → Bool → Bool → Request
@@ -114,28 +118,41 @@ pastBefore n = upTo n [] (map (λ row. row .0) worked)
 abbrev deviceBefore : ℕ → Device
 deviceBefore n = deviceAfter block 100 (pastBefore n)
 
--- what the theorems of that name ask; what `fresh-only` and `stands-same` ask stands in the table
+-- the call that releases after the block, the response that leaves the device as it stands, and SPDUs that are all zero, old and damaged
+abbrev releasing : Happening
+releasing = happening.Request 44 (intact 3)
+
+abbrev beside : Happening
+beside = response 144
+
+-- the theorems of these names, of calls of the history
 pub record Met : Type 0 where
-  pub fresh-if : Releases (judged (deviceBefore 6) 100 44) (intact 3)
-  pub cycles-first : deviceBefore 7 .released ≡ true
-  pub after-error : (hadErrorOrTimeout block 100 (pastBefore 18) ≡ true) × (deviceBefore 18 .released ≡ true)
-  pub mirrored : deviceBefore 7 .responded ≡ true
-  pub in-time : elapsedOf 144 (deviceBefore 7 .DTimer) ≤ 100
-  pub moved-step : (deviceBefore 7 .DTimer < 2 ^ 32) × (readingOf (response 144) < 2 ^ 32)
-  pub discarded-zeros : (zeros .«all_zero» || isOld (judged (deviceBefore 1) 100 4294967295) zeros) ≡ true
-  pub discarded-old : (set 0 .«all_zero» || isOld (judged (deviceBefore 3) 100 14) (set 0)) ≡ true
-  pub damaged-safe : (waits (deviceBefore 10) ≡ true) × ((isOld (judged (deviceBefore 10) 100 164) (damaged 6) ≡ false) × (sound (judged (deviceBefore 10) 100 164) (damaged 6) ≡ false))
+  pub fresh-only : FreshBy (deviceBefore 6) 100 releasing
+  pub fresh-if : stepOf (deviceBefore 6) 100 releasing .mark ≡ Fresh
+  pub cycles-first : 3 < passedSince block 100 (pastBefore 7)
+  pub after-error : 4 < passedSince block 100 (pastBefore 18)
+  pub mirrored : deviceBefore 7 .«DCount_i» ≡ inverted (deviceBefore 7 .MCount)
+  pub in-time : watchdogRow (deviceBefore 7) 100 144 ≡ Stay
+  pub stands-same : stepOf (deviceBefore 7) 100 beside .device ≡ deviceBefore 7
+  pub moved-step : stepOf (movedDevice 5 (deviceBefore 7)) 100 (movedHappening 5 beside) ≡ movedOutcome 5 (stepOf (deviceBefore 7) 100 beside)
+  pub discarded-zeros : stepOf (deviceBefore 1) 100 (happening.Request 4294967295 zeros) .device ≡ judged (deviceBefore 1) 100 4294967295
+  pub discarded-old : stepOf (deviceBefore 3) 100 (happening.Request 14 (set 0)) .device ≡ judged (deviceBefore 3) 100 14
+  pub damaged-safe : let o = stepOf (deviceBefore 10) 100 (happening.Request 164 (damaged 6)) in (o .mark ≡ Safe) × (o .device .released ≡ false)
 
 pub met : Met
-unfolding worked upTo deviceAfter hadErrorOrTimeout stepOf watched received arrived quiet judged acted watchdogRow isTaken checked arrivalRow taken t22 t25 t28 t29 t30t31 elapsedOf
+unfolding worked upTo deviceAfter hadErrorOrTimeout stands stepOf watched received arrived quiet judged acted watchdogRow isTaken checked arrivalRow taken t22 t25 t28 t29 t30t31 elapsedOf
 met = record {
-  fresh-if = record { taken = refl; regular = refl; signature = refl; port = refl; count = refl; cycles = refl; not-set = refl };
-  cycles-first = refl;
-  after-error = (refl, refl);
-  mirrored = refl;
-  in-time = omega arith;
-  moved-step = (omega arith, omega arith);
-  discarded-zeros = refl;
-  discarded-old = refl;
-  damaged-safe = (refl, (refl, refl));
+  fresh-only = release.fresh-only (deviceBefore 6) 100 releasing refl;
+  fresh-if =
+      release.fresh-if (deviceBefore 6) 100 44 (intact 3)
+      (record { taken = refl; regular = refl; signature = refl; port = refl; count = refl; cycles = refl; not-set = refl });
+  cycles-first = release.cycles-first block 100 (pastBefore 7) refl;
+  after-error = release.after-error block 100 (pastBefore 18) refl refl;
+  mirrored = faults.mirrored block 100 (pastBefore 7) refl;
+  in-time = faults.in-time (deviceBefore 7) 100 144 (omega arith);
+  stands-same = faults.stands-same (deviceBefore 7) 100 beside refl;
+  moved-step = moving.moved-step 5 (deviceBefore 7) 100 beside (omega arith) (omega arith);
+  discarded-zeros = faults.discarded (deviceBefore 1) 100 4294967295 zeros refl;
+  discarded-old = faults.discarded (deviceBefore 3) 100 14 (set 0) refl;
+  damaged-safe = faults.damaged-safe (deviceBefore 10) 100 164 (damaged 6) refl refl refl refl;
 }

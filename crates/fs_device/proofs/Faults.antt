@@ -113,7 +113,7 @@ received-waits d r at q h =
     (λ _. h)
 
 -- The FS-Device rests in 21, 24 or 26, from a block on.
-pub waiting : (d : Device) (w : ℕ) (h : Happening) → waits d ≡ true → waits (stepOf d w h .device) ≡ true
+waiting : (d : Device) (w : ℕ) (h : Happening) → waits d ≡ true → waits (stepOf d w h .device) ≡ true
 unfolding stepOf watched quiet
 waiting d w (happening.Request at q) e = received-waits (judged d w at) (watchdogRow d w at) at q (judged-waits d w at e)
 waiting d w (happening.Response at f) e = judged-waits d w at e
@@ -129,7 +129,7 @@ taken-there : (zero old wait : Bool) → wait ≡ true → zero ≡ false → ol
 taken-there zero old wait a b c = simp (a, b, c)
 
 -- In a wait, every SPDU is taken that is neither all zero nor old.
-pub taken-unless : (d : Device) (q : Request) → waits d ≡ true → q .«all_zero» ≡ false → isOld d q ≡ false → isTaken d q ≡ true
+taken-unless : (d : Device) (q : Request) → waits d ≡ true → q .«all_zero» ≡ false → isOld d q ≡ false → isTaken d q ≡ true
 unfolding isTaken
 taken-unless d q h z o = taken-there (q .«all_zero») (isOld d q) (waits d) h z o
 

@@ -1,12 +1,14 @@
 -- Nothing is promised of nothing: a worked course of happenings after an accepted block, computed, in which every row of 000 Table 38, every check,
 -- every mark and every standing of a fault arises, and the premises of the theorems are met. Assumes nothing.
-use Prim.Native.Nat.{ℕ, _-_}
+use Prim.Native.Nat.{ℕ, _-_, _≤_}
+use native.Mathlib.Omega.{arith}
 use mathlib.Core.Path.{_≡_, refl, sym}
-use mathlib.Core.Bool.{Bool, true, false, _||_}
+use mathlib.Core.Logic.{_⊎_}
+use mathlib.Core.Bool.{Bool, true, false}
 use mathlib.Core.List.{List, [], _∷_, map}
-use lib.Dec.{eqb, leb}
 use lib.ListN.{drop}
 use Rattle.scl.specs.Time.{elapsedOf}
+use Rattle.scl.specs.Moved.{movedHappening}
 use Rattle.scl.specs.declared.Happening.{Happening}
 use Rattle.scl.specs.declared.Happening.the-variants as happening
 use Rattle.scl.specs.declared.Response.{Response}
@@ -19,9 +21,15 @@ use Rattle.scl.proofs.Cases.{no}
 use Rattle.fs_master.specs.declared.Master.{Master}
 use Rattle.fs_master.specs.declared.Row.{Row}
 use Rattle.fs_master.specs.declared.Row.the-variants.{Stay, T4, T7, T8, T11, T12, T13, T14}
-use Rattle.fs_master.specs.Table38.{watchdogRow, isExpected, isOld, isTaken, checked, from8, arrivalRow, taken, sampleFrom, t4, t7, t8, t11, t12, t13, t14, acted, signalled}
+use Rattle.fs_master.specs.Table38.{watchdogRow, isOld, isTaken, checked, from8, arrivalRow, taken, sampleFrom, t4, t7, t8, t11, t12, t13, t14, acted, signalled}
 use Rattle.fs_master.specs.Calls.{judged, quiet, arrived, received, watched, operated, stepOf}
-use Rattle.fs_master.specs.History.{Releases, sound, masterAfter, signalsAfter, signals, Fault, None, Open, Asked, faultAfter, fault}
+use Rattle.fs_master.specs.History.{FreshBy, Held, masterAfter, hasPassed, movedMaster, movedOutcome, signalsAfter, signals, Fault, None, Open, Asked, faultAfter, fault}
+use Rattle.fs_master.proofs.Rows as rows
+use Rattle.fs_master.proofs.Release as release
+use Rattle.fs_master.proofs.Acknowledge as acknowledge
+use Rattle.fs_master.proofs.Counts as counts
+use Rattle.fs_master.proofs.Faults as faults
+use Rattle.fs_master.proofs.Moved as moving
 
 -- a response of this DCount_i, with SDset, and whether port and signature hold
 abbrev response : ℕ → Bool → Bool → Bool → Response
@@ -122,41 +130,62 @@ pub course-arises : seen course ≡ table
 unfolding seen masterAfter fault faultAfter signals signalsAfter stepOf watched operated quiet received arrived judged acted t4 t7 t8 t11 t12 t13 t14 taken isOld isTaken checked from8 arrivalRow watchdogRow signalled sampleFrom elapsedOf
 course-arises = refl
 
--- the FS-Master after the first n calls
-abbrev after : ℕ → Master
-after n = masterAfter 0 100 (drop (18 - n) course)
+-- the first n calls, and the FS-Master after them
+abbrev first : ℕ → List Happening
+first n = drop (18 - n) course
 
--- what each theorem asks for, at a call of the course
+abbrev after : ℕ → Master
+after n = masterAfter 0 100 (first n)
+
+-- T4 and T11, each of which releases
+abbrev releasing : Happening
+releasing = happening.Response 10 (good 7)
+
+abbrev releasingAgain : Happening
+releasingAgain = happening.Response 430 (good 6)
+
+-- the theorems of these names, of calls of the course
 pub record Met : Type 0 where
-  fresh-only : stepOf (after 0) 100 (happening.Response 10 (good 7)) .mark ≡ Fresh
-  fresh-if : Releases (judged (after 0) 100 10) (good 7) × Releases (judged (after 6) 100 430) (good 6)
-  release-begins : stepOf (after 6) 100 (happening.Response 430 (good 6)) .master .released ≡ true
-  taken-in-2 : (eqb (after 0 .state) 2 ≡ true) × ((good 7 .«all_zero» ≡ false) × (isExpected (after 0) (good 7) ≡ true))
-  taken-later : ((eqb (after 8 .state) 5 || eqb (after 8 .state) 7) ≡ true) × ((damaged 4 .«all_zero» ≡ false) × (isOld (after 8) (damaged 4) ≡ false))
-  all-zero : zeros .«all_zero» ≡ true
-  discarded : isTaken (judged (after 13) 100 500) (good 4) ≡ false
-  damaged-safe : (isTaken (judged (after 8) 100 450) (damaged 4) ≡ true) × (sound (judged (after 8) 100 450) (damaged 4) ≡ false)
-  another-count : stepOf (after 6) 100 (happening.Response 430 (good 6)) .passed ≡ true
-  in-time : leb (elapsedOf 20 (after 1 .MTimer)) 100 ≡ true
-  acknowledged : after 7 .released ≡ true
-  passed-first : after 1 .released ≡ true
+  fresh-only : FreshBy (after 0) 100 releasing
+  fresh-if : stepOf (after 0) 100 releasing .mark ≡ Fresh
+  fresh-if-again : stepOf (after 6) 100 releasingAgain .mark ≡ Fresh
+  release-begins : (stepOf (after 6) 100 releasingAgain .mark ≡ Fresh) ⊎ (after 6 .released ≡ true)
+  taken-in-2 : isTaken (after 0) (good 7) ≡ true
+  taken-later : isTaken (after 8) (damaged 4) ≡ true
+  all-zero : isTaken (after 15) zeros ≡ false
+  discarded : stepOf (after 13) 100 (happening.Response 500 (good 4)) .master ≡ judged (after 13) 100 500
+  damaged-safe : let o = stepOf (after 8) 100 (happening.Response 450 (damaged 4)) in (o .mark ≡ Safe) × (o .master .released ≡ false)
+  another-count : stepOf (after 6) 100 releasingAgain .master .MCount ≡ judged (after 6) 100 430 .MCount → ⊥
+  count-below : stepOf (after 6) 100 releasingAgain .master .MCount ≤ 7
+  held : Held (stepOf (after 0) 100 releasing .master)
+  in-time : watchdogRow (after 1) 100 20 ≡ Stay
+  moved-step : stepOf (movedMaster 5 (after 1)) 100 (movedHappening 5 (happening.Clock 20)) ≡ movedOutcome 5 (stepOf (after 1) 100 (happening.Clock 20))
+  requested : after 5 .«ChFAckReq_S» ≡ true
+  acknowledged : fault 0 100 (first 7) ≡ None
+  passed-first : hasPassed 0 100 (first 1) ≡ true
 
 pub premises-met : Met
-unfolding masterAfter stepOf watched operated quiet received arrived judged acted t4 t7 t8 t11 t12 t13 t14 taken isOld isTaken checked from8 arrivalRow watchdogRow signalled sampleFrom elapsedOf
+unfolding masterAfter fault faultAfter signals signalsAfter stepOf watched operated quiet received arrived judged acted t4 t7 t8 t11 t12 t13 t14 taken isOld isTaken checked from8 arrivalRow watchdogRow signalled sampleFrom elapsedOf
 premises-met = record {
-  fresh-only = refl;
-  fresh-if = (
-    record { taken = refl; signature = refl; port = refl; count = refl; no-error = refl; no-timeout = refl; not-set = refl; not-asked = refl; acknowledged = λ e. no (sym e) },
-    record { taken = refl; signature = refl; port = refl; count = refl; no-error = refl; no-timeout = refl; not-set = refl; not-asked = refl; acknowledged = λ _. refl },
-  );
-  release-begins = refl;
-  taken-in-2 = (refl, (refl, refl));
-  taken-later = (refl, (refl, refl));
-  all-zero = refl;
-  discarded = refl;
-  damaged-safe = (refl, refl);
-  another-count = refl;
-  in-time = refl;
-  acknowledged = refl;
-  passed-first = refl;
+  fresh-only = release.fresh-only (after 0) 100 releasing refl;
+  fresh-if =
+      release.fresh-if (after 0) 100 10 (good 7)
+      (record { taken = refl; signature = refl; port = refl; count = refl; no-error = refl; no-timeout = refl; not-set = refl; not-asked = refl; acknowledged = λ e. no (sym e) });
+  fresh-if-again =
+      release.fresh-if (after 6) 100 430 (good 6)
+      (record { taken = refl; signature = refl; port = refl; count = refl; no-error = refl; no-timeout = refl; not-set = refl; not-asked = refl; acknowledged = λ _. refl });
+  release-begins = release.release-begins (after 6) 100 releasingAgain refl;
+  taken-in-2 = faults.taken-in-2 (after 0) (good 7) refl refl refl;
+  taken-later = faults.taken-later (after 8) (damaged 4) refl refl refl;
+  all-zero = faults.all-zero (after 15) zeros refl;
+  discarded = faults.discarded (after 13) 100 500 (good 4) refl;
+  damaged-safe = faults.damaged-safe (after 8) 100 450 (damaged 4) refl refl;
+  another-count = counts.another-count (after 6) 100 430 (good 6) refl;
+  count-below = counts.count-below (after 6) 100 releasingAgain (omega arith);
+  held = counts.held (after 0) 100 releasing (counts.first-held 0);
+  in-time = rows.in-time (after 1) 100 20 (omega arith);
+  moved-step = moving.moved-step 5 (after 1) 100 (happening.Clock 20) (omega arith) (omega arith);
+  requested = acknowledge.requested 0 100 (first 5) refl;
+  acknowledged = acknowledge.acknowledged 0 100 (first 7) refl;
+  passed-first = release.passed-first 0 100 (first 1) refl;
 }

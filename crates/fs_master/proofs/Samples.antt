@@ -21,7 +21,7 @@ use Rattle.fs_master.specs.History.{sound, passesBy}
 -- ---- the start
 
 -- it is kept while the count is the same, and is the call's reading where the count takes another value
-abbrev pub startAfter : Master → ℕ → ℕ → ℕ
+abbrev startAfter : Master → ℕ → ℕ → ℕ
 startAfter m count at = cond (eqb count (m .MCount)) (m .sample) at
 
 stays : (m : Master) (at : ℕ) → m .sample ≡ startAfter m (m .MCount) at

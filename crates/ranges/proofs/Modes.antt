@@ -22,10 +22,10 @@ module _ (low high m : ℕ) where
   pub inside-above : low ≤ m → high < m → inside low high m ≡ false
   inside-above h k = simp (le-leb low m h, lt-leb m high k)
 
-abbrev pub reserved : ℕ → Bool
+abbrev reserved : ℕ → Bool
 reserved m = inside 5 48 m || inside 52 96 m || inside 97 255 m
 
-abbrev pub withoutScl : ℕ → Bool
+abbrev withoutScl : ℕ → Bool
 withoutScl m = inside 0 4 m || eqb m 51
 
 module _ (a : Answer) (m : ℕ) where

@@ -10,10 +10,6 @@ pub elapsed-is : (r now since : ℕ) → r < 2 ^ 32 → since < 2 ^ 32 → (r + 
 unfolding elapsedOf
 elapsed-is r now since r-fits since-fits e = omega arith
 
--- with 01's numbers, over the wrap
-pub elapsed-met : 10 ≡ elapsedOf 4 4294967290
-elapsed-met = elapsed-is 10 4 4294967290 (omega arith) (omega arith) refl
-
 pub meaning : (now since : ℕ) → now < 2 ^ 32 → since < 2 ^ 32 → (elapsedOf now since + since) % 2 ^ 32 ≡ now
 unfolding elapsedOf
 meaning now since now-fits since-fits = omega arith
@@ -27,3 +23,16 @@ forward now since fits later = omega arith
 pub shifted : (now since k : ℕ) → now < 2 ^ 32 → since < 2 ^ 32 → elapsedOf (moved k now) (moved k since) ≡ elapsedOf now since
 unfolding elapsedOf
 shifted now since k now-fits since-fits = omega arith
+
+-- the premises are met by 01's numbers, over the wrap, and by two readings before it
+pub elapsed-met : 10 ≡ elapsedOf 4 4294967290
+elapsed-met = elapsed-is 10 4 4294967290 (omega arith) (omega arith) refl
+
+pub meaning-met : (elapsedOf 4 4294967290 + 4294967290) % 2 ^ 32 ≡ 4
+meaning-met = meaning 4 4294967290 (omega arith) (omega arith)
+
+pub forward-met : elapsedOf 4294967295 4294967290 ≡ 5
+forward-met = forward 4294967295 4294967290 (omega arith) (omega arith)
+
+pub shifted-met : elapsedOf (moved 14 4294967286) (moved 14 4294967276) ≡ elapsedOf 4294967286 4294967276
+shifted-met = shifted 4294967286 4294967276 14 (omega arith) (omega arith)

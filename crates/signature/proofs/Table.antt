@@ -11,7 +11,7 @@ use mir.Facts.{and-yes}
 use Rattle.signature.specs.Lookup.{division, Table}
 
 -- the test f passes at each entry of the list and its place, counted from i
-abbrev pub every : (ℕ → ℕ → Bool) → ℕ → List ℕ → Bool
+abbrev every : (ℕ → ℕ → Bool) → ℕ → List ℕ → Bool
 every f i [] = true
 every f i (x ∷ xs) = f i x && every f (suc i) xs
 

@@ -1,5 +1,4 @@
--- The premises of the theorems on what is read can be met, and each mark hands on its part: computed, in the short mode. `Premises` are met in
--- Needed.antt, in both. Assumes nothing.
+-- The premises of the theorems on what is read can be met, and each mark hands on its part: computed. Assumes nothing.
 use mathlib.Core.Path.{_≡_, refl}
 use mathlib.Core.Bool.{true, false}
 use mathlib.Core.List.{List, [], _∷_, _++_}
@@ -22,8 +21,8 @@ use Rattle.spdu.specs.Flips.{flippedSpdu}
 use Rattle.spdu.specs.RoundTrip.{requestBack, responseBack}
 use Rattle.spdu.proofs.ReadBack.{determined-by-fields}
 use Rattle.spdu.proofs.Back.{request-back, response-back}
-use Rattle.spdu.proofs.Arrived.{response-exact, response-burst, response-odd, response-none}
-use Rattle.spdu.proofs.Needed.{otherShort, generatorShort, burstShort, short-refused, short-most-met, short-refused-met}
+use Rattle.spdu.proofs.Arrived as arrived
+use Rattle.spdu.proofs.Needed.{otherShort, otherLong, generatorShort, generatorLong, burstShort, burstLong, short-refused, long-refused, short-most-met, long-most-met, short-refused-met, long-refused-met}
 
 -- port 1, SPDUs of 5 octets each way
 abbrev p : Params
@@ -43,28 +42,62 @@ unfolding signature octet shiftInAll shiftIn
 determined-met =
     determined-by-fields byBits 1 (sent 0x62) (sent 0x62) (octets-of (sent 0x62) refl) (octets-of (sent 0x62) refl) (omega arith) refl refl refl refl refl refl
 
--- ---- demand 3 over what the FS-Master reads, of SPDUs of 7 octets
-abbrev q : Params
-q = paramsOf (set good 38 7)
+-- ---- demand 3 over what each end reads, for port 3 and control octet 0x20
 
-pub exact-met : Multiple (bits (widthOf 1) (generatorOf 1)) (octetBits generatorShort)
+-- the mark stays set where these bits are flipped
+abbrev ResponseHolds : Params → List ℕ → List ℕ → Type 0
+ResponseHolds p process es = responseBy byBits p (flippedSpdu (p .«FSP_ProtMode») process 3 0x20 es) .«signature_holds» ≡ true
+
+abbrev RequestHolds : Params → List ℕ → List ℕ → Type 0
+RequestHolds p process es = requestBy byBits p (flippedSpdu (p .«FSP_ProtMode») process 3 0x20 es) .«signature_holds» ≡ true
+
+abbrev MultipleOf : Params → List ℕ → Type 0
+MultipleOf p es = Multiple (bits (widthOf (p .«FSP_ProtMode»)) (generatorOf (p .«FSP_ProtMode»))) (octetBits es)
+
+-- the theorems of these names, of three flip sets: the generator, a burst of an odd number of flips, and none
+pub record Read (p : Params) (process generator burst none : List ℕ) : Type 0 where
+  response-exact : MultipleOf p generator
+  request-exact : MultipleOf p generator
+  response-burst : ResponseHolds p process burst → ones (octetBits burst) ≡ 0
+  request-burst : RequestHolds p process burst → ones (octetBits burst) ≡ 0
+  response-odd : ResponseHolds p process burst → ⊥
+  request-odd : RequestHolds p process burst → ⊥
+  response-none : ResponseHolds p process none
+  request-none : RequestHolds p process none
+
+-- SPDUs of 7 octets each way
+abbrev short : Params
+short = paramsOf (set (set good 38 7) 43 7)
+
+pub short-read : Read short otherShort generatorShort burstShort (replicate 7 0)
 unfolding signature octet shiftInAll shiftIn
-exact-met = response-exact q otherShort 3 0x20 generatorShort refl short-most-met .0 refl
+short-read = record {
+  response-exact = arrived.response-exact short otherShort 3 0x20 generatorShort refl short-most-met .0 refl;
+  request-exact = arrived.request-exact short otherShort 3 0x20 generatorShort refl short-most-met .0 refl;
+  response-burst = arrived.response-burst short otherShort 3 0x20 burstShort refl short-refused-met (short-refused .first) (short-refused .within);
+  request-burst = arrived.request-burst short otherShort 3 0x20 burstShort refl short-refused-met (short-refused .first) (short-refused .within);
+  response-odd = arrived.response-odd short otherShort 3 0x20 burstShort refl short-refused-met refl;
+  request-odd = arrived.request-odd short otherShort 3 0x20 burstShort refl short-refused-met refl;
+  response-none = arrived.response-none short otherShort 3 0x20 (replicate 7 0) refl (octets-of (replicate 7 0) refl) refl;
+  request-none = arrived.request-none short otherShort 3 0x20 (replicate 7 0) refl (octets-of (replicate 7 0) refl) refl;
+}
 
-abbrev Passes : Type 0
-Passes = responseBy byBits q (flippedSpdu 1 otherShort 3 0x20 burstShort) .«signature_holds» ≡ true
+-- SPDUs of 10
+abbrev long : Params
+long = paramsOf (set (set (set good 26 2) 38 10) 43 10)
 
-pub burst-met : Passes → ones (octetBits burstShort) ≡ 0
+pub long-read : Read long otherLong generatorLong burstLong (replicate 10 0)
 unfolding signature octet shiftInAll shiftIn
-burst-met = response-burst q otherShort 3 0x20 burstShort refl short-refused-met (short-refused .first) (short-refused .within)
-
-pub odd-met : Passes → ⊥
-unfolding signature octet shiftInAll shiftIn
-odd-met = response-odd q otherShort 3 0x20 burstShort refl short-refused-met refl
-
-pub none-met : responseBy byBits q (flippedSpdu 1 otherShort 3 0x20 (replicate 7 0)) .«signature_holds» ≡ true
-unfolding signature octet shiftInAll shiftIn
-none-met = response-none q otherShort 3 0x20 (replicate 7 0) refl (octets-of (replicate 7 0) refl) refl
+long-read = record {
+  response-exact = arrived.response-exact long otherLong 3 0x20 generatorLong refl long-most-met .0 refl;
+  request-exact = arrived.request-exact long otherLong 3 0x20 generatorLong refl long-most-met .0 refl;
+  response-burst = arrived.response-burst long otherLong 3 0x20 burstLong refl long-refused-met (long-refused .first) (long-refused .within);
+  request-burst = arrived.request-burst long otherLong 3 0x20 burstLong refl long-refused-met (long-refused .first) (long-refused .within);
+  response-odd = arrived.response-odd long otherLong 3 0x20 burstLong refl long-refused-met refl;
+  request-odd = arrived.request-odd long otherLong 3 0x20 burstLong refl long-refused-met refl;
+  response-none = arrived.response-none long otherLong 3 0x20 (replicate 10 0) refl (octets-of (replicate 10 0) refl) refl;
+  request-none = arrived.request-none long otherLong 3 0x20 (replicate 10 0) refl (octets-of (replicate 10 0) refl) refl;
+}
 
 -- ---- what each mark hands on, and a recording of which one SPDU is damaged
 pub each-part :

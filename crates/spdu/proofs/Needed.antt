@@ -66,20 +66,20 @@ zeroLong = 0xC0 ∷ 0x02 ∷ 0x5E ∷ 0x8D ∷ []
 abbrev pub otherShort : List ℕ
 otherShort = 0x01 ∷ 0x02 ∷ 0x03 ∷ []
 
-abbrev otherLong : List ℕ
+abbrev pub otherLong : List ℕ
 otherLong = 0x01 ∷ 0x02 ∷ 0x03 ∷ 0x04 ∷ []
 
 -- flips: the generator, its leading 1 the last bit of the control octet; and the generator without its last 1
 abbrev pub generatorShort : List ℕ
 generatorShort = 0 ∷ 0 ∷ 0 ∷ 0 ∷ 0x01 ∷ 0x4E ∷ 0xAB ∷ []
 
-abbrev generatorLong : List ℕ
+abbrev pub generatorLong : List ℕ
 generatorLong = 0 ∷ 0 ∷ 0 ∷ 0 ∷ 0 ∷ 0x01 ∷ 0xF4 ∷ 0xAC ∷ 0xFB ∷ 0x13 ∷ []
 
 abbrev pub burstShort : List ℕ
 burstShort = 0 ∷ 0 ∷ 0 ∷ 0 ∷ 0x01 ∷ 0x4E ∷ 0xAA ∷ []
 
-abbrev burstLong : List ℕ
+abbrev pub burstLong : List ℕ
 burstLong = 0 ∷ 0 ∷ 0 ∷ 0 ∷ 0 ∷ 0x01 ∷ 0xF4 ∷ 0xAC ∷ 0xFB ∷ 0x12 ∷ []
 
 -- R5a: 00033A03814EAB is flipped to 00033A03800001

@@ -10,7 +10,7 @@ use Rattle.spdu.specs.Signature.{replaced}
 use Rattle.spdu.specs.Built.{contentsWith, spduWith}
 
 -- the signature's octets, where the mode is the short one or not
-abbrev pub octetsFor : Bool → ℕ → List ℕ
+abbrev octetsFor : Bool → ℕ → List ℕ
 octetsFor short x = cond short (x / 256 % 256 ∷ x % 256 ∷ []) (x / 16777216 % 256 ∷ x / 65536 % 256 ∷ x / 256 % 256 ∷ x % 256 ∷ [])
 
 module _ (mode : ℕ) {short : Bool} (known : eqb mode 1 ≡ short) (process : List ℕ) (port control : ℕ) where
