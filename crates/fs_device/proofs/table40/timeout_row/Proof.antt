@@ -1,15 +1,29 @@
+use mathlib.Core.Path.{_≡_}
+use Prim.Native.Nat.{ℕ}
 use borrow.Author.Tests.{eq-eqb, ne-eqb}
+use Rattle.fs_device.specs.declared.Row.the-variants.{Stay, T31, T30}
+use Rattle.fs_device.specs.Table40.{timeoutRow}
 use Rattle.fs_device.proofs.table40.timeout_row.Statement.{statement}
 use Rattle.fs_device.proofs.table40.timeout_row.Tie as tie
 
+module _ (state : ℕ) where
+  first : state ≡ 24 → T31 ≡ timeoutRow state
+  first e = simp (eq-eqb state 24 e)
+
+  second : (state ≡ 24 → ⊥) → state ≡ 26 → T30 ≡ timeoutRow state
+  second n e = simp (ne-eqb state 24 n, eq-eqb state 26 e)
+
+  neither : (state ≡ 24 → ⊥) → (state ≡ 26 → ⊥) → Stay ≡ timeoutRow state
+  neither n k = simp (ne-eqb state 24 n, ne-eqb state 26 k)
+
 returns : tie.Need-returns
-returns c = simp (eq-eqb _ _ (c .if1 .taken))
+returns c = first _ (c .if1 .taken)
 
 returns-2 : tie.Need-returns-2
-returns-2 c = simp (eq-eqb _ _ (c .if2 .taken), ne-eqb _ _ (c .before .if1 .left))
+returns-2 c = second _ (c .before .if1 .left) (c .if2 .taken)
 
 returns-3 : tie.Need-returns-3
-returns-3 c = simp (ne-eqb _ _ (c .if2 .left), ne-eqb _ _ (c .before .if1 .left))
+returns-3 c = neither _ (c .before .if1 .left) (c .if2 .left)
 
 pub timeout-row-spec : {M : Type 1} → statement M
 timeout-row-spec = tie.close (tie.spec returns returns-2 returns-3)
