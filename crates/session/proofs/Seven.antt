@@ -10,11 +10,13 @@ use Rattle.answer.specs.declared.Answer.{Answer}
 use Rattle.answer.specs.declared.Answer.the-variants.{Taken}
 use Rattle.answer.specs.Answers.{numberOf, isTaken}
 use Rattle.answer.specs.Rules.{Rule, rule, refused, answerBy}
+use Rattle.block.specs.declared.Params.{Params}
 use Rattle.spdu.specs.Places.{processOctets, allZero}
 use Rattle.spdu.specs.Image.{safeValuesHold}
 use Rattle.bench.specs.declared.Port.{Port}
 use Rattle.bench.specs.declared.Bench.{Bench}
 use Rattle.bench.specs.Ports.{portAt}
+use Rattle.bench.specs.Calls.{safeInHold, safeOutHold}
 use Rattle.bench.specs.History.{Call, SetParameters, ReceiveResponse, Clock, Operator, portOf, rulesOf, answerOf}
 use Rattle.bench.proofs.Answers.{answer-is}
 use Rattle.scl.proofs.Cases.{and-left, and-right}
@@ -48,9 +50,15 @@ zeros-zero : (n : ℕ) → allZero (replicate {A = ℕ} n 0) ≡ true
 zeros-zero zero = refl
 zeros-zero (suc n) = zeros-zero n
 
-pub lent : (mode n : ℕ) → safeValuesHold mode n (replicate {A = ℕ} (processOctets mode n) 0) ≡ true
+lent : (mode n : ℕ) → safeValuesHold mode n (replicate {A = ℕ} (processOctets mode n) 0) ≡ true
 lent mode n =
     rw (eq-eqb (length (replicate {A = ℕ} (processOctets mode n) 0)) (processOctets mode n) (length-replicate (processOctets mode n) 0), zeros-zero (processOctets mode n))
+
+pub safe-in : (q : Params) → safeInHold q (safeIn q) ≡ true
+safe-in q = lent (q .«FSP_ProtMode») (q .SPDUInLength)
+
+pub safe-out : (q : Params) → safeOutHold q (safeOut q) ≡ true
+safe-out q = lent (q .«FSP_ProtMode») (q .SPDUOutLength)
 
 module _ (b : Bench) (e : Entry) where
   abbrev p : Port
@@ -67,9 +75,9 @@ module _ (b : Bench) (e : Entry) where
   kept : (k₁ k₂ k₃ : Bool) → noSeven (rulesOf (portAt b (portOf (call k₁ k₂ k₃))) (call k₁ k₂ k₃)) ≡ true
   unfolding rulesOf portOf
   kept true k₂ k₃ = refl
-  kept false true k₃ = rw (lent (p .params .«FSP_ProtMode») (p .params .SPDUInLength))
-  kept false false true = rw (lent (p .params .«FSP_ProtMode») (p .params .SPDUInLength), lent (p .params .«FSP_ProtMode») (p .params .SPDUOutLength))
-  kept false false false = rw (lent (p .params .«FSP_ProtMode») (p .params .SPDUInLength))
+  kept false true k₃ = rw (safe-in (p .params))
+  kept false false true = rw (safe-in (p .params), safe-out (p .params))
+  kept false false false = rw (safe-in (p .params))
 
   pub never-seven : isSeven (answerOf b (callOf b e)) ≡ false
   never-seven =

@@ -33,7 +33,7 @@ use Rattle.session.specs.declared.Act.{Act}
 use Rattle.session.specs.declared.Act.the-variants.{Refused, Accepted, Happens}
 use Rattle.session.specs.Run.{Entry, safeIn, safeOut, setSDIn, ackIn, callOf}
 use Rattle.session.specs.Acts.{rulesOf, blockAct, callAct, happeningBy, actBy, answerIn, placeOf}
-use Rattle.session.proofs.Seven.{lent, call}
+use Rattle.session.proofs.Seven.{safe-in, safe-out, call}
 
 -- ---- At one port
 
@@ -104,22 +104,16 @@ module _ (p : Port) (e : Entry) where
       (cond k₃ (happening.Clock (e .at))
       (happening.Operator (e .at) (setSDIn (e .octets)) (ackIn (e .octets))))))
 
-  safe-in : calls.safeInHold q (safeIn q) ≡ true
-  safe-in = lent (q .«FSP_ProtMode») (q .SPDUInLength)
-
-  safe-out : calls.safeOutHold q (safeOut q) ≡ true
-  safe-out = lent (q .«FSP_ProtMode») (q .SPDUOutLength)
-
   response-rules : answerBy answers.Taken (calls.responseRules (e .port) p (read .length) (safeIn q)) ≡ answerBy answers.Taken (rules true)
   response-rules =
-      rw (safe-in, response-length q (e .octets))
+      rw (safe-in q, response-length q (e .octets))
       (response-answer (outside 1 8 (e .port)) (not (p .running)) (not (eqb (length (e .octets)) (q .SPDUInLength))))
 
   clock-rules : answerBy answers.Taken (calls.clockRules (e .port) p (safeIn q) (safeOut q)) ≡ answerBy answers.Taken (rules false)
-  clock-rules = rw (safe-in, safe-out) (other-answer (outside 1 8 (e .port)) (not (p .running)))
+  clock-rules = rw (safe-in q, safe-out q) (other-answer (outside 1 8 (e .port)) (not (p .running)))
 
   operator-rules : answerBy answers.Taken (calls.operatorRules (e .port) p (safeIn q)) ≡ answerBy answers.Taken (rules false)
-  operator-rules = rw safe-in (other-answer (outside 1 8 (e .port)) (not (p .running)))
+  operator-rules = rw (safe-in q) (other-answer (outside 1 8 (e .port)) (not (p .running)))
 
   happens : (a a′ : Answer) (h : Happening) → a ≡ a′ → calls.settled p a h ≡ actDone p (e .at) (callAct a′ h)
   unfolding calls.settled
