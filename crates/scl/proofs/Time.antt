@@ -19,12 +19,17 @@ pub forward : (now since : ℕ) → now < 2 ^ 32 → since ≤ now → elapsedOf
 unfolding elapsedOf
 forward now since fits later = omega arith
 
+-- "A clock that goes back reads as a very long wait": 2^32 less what it went back by
+pub backward : (now since : ℕ) → now < since → since < 2 ^ 32 → elapsedOf now since ≡ 2 ^ 32 - (since - now)
+unfolding elapsedOf
+backward now since earlier fits = omega arith
+
 -- the wrap of the clock changes nothing: both readings moved by the same amount
 pub shifted : (now since k : ℕ) → now < 2 ^ 32 → since < 2 ^ 32 → elapsedOf (moved k now) (moved k since) ≡ elapsedOf now since
 unfolding elapsedOf
 shifted now since k now-fits since-fits = omega arith
 
--- the premises are met by 01's numbers, over the wrap, and by two readings before it
+-- the premises are met by 01's numbers, over the wrap, and by others
 pub elapsed-met : 10 ≡ elapsedOf 4 4294967290
 elapsed-met = elapsed-is 10 4 4294967290 (omega arith) (omega arith) refl
 
@@ -33,6 +38,9 @@ meaning-met = meaning 4 4294967290 (omega arith) (omega arith)
 
 pub forward-met : elapsedOf 4294967295 4294967290 ≡ 5
 forward-met = forward 4294967295 4294967290 (omega arith) (omega arith)
+
+pub backward-met : elapsedOf 1000 1001 ≡ 4294967295
+backward-met = backward 1000 1001 (omega arith) (omega arith)
 
 pub shifted-met : elapsedOf (moved 14 4294967286) (moved 14 4294967276) ≡ elapsedOf 4294967286 4294967276
 shifted-met = shifted 4294967286 4294967276 14 (omega arith) (omega arith)
