@@ -4,7 +4,7 @@ use mathlib.Core.Path.{_≡_, refl, ap, _∙_}
 use mathlib.Core.Logic.{_↔_}
 use mathlib.Core.Bool.{Bool, true, false, cond}
 use mathlib.Core.List.{List, [], _∷_, _++_}
-use lib.Dec.{eqb}
+use lib.Dec.{eqb, leb}
 use lib.ListN.{length}
 use Rattle.answer.specs.declared.Answer.{Answer}
 use Rattle.answer.specs.declared.Answer.the-variants.{Taken}
@@ -14,6 +14,7 @@ use Rattle.answer.proofs.Exact.{given-exactly, taken-exactly}
 use Rattle.block.specs.declared.Params.{Params}
 use Rattle.scl.specs.declared.Request.{Request}
 use Rattle.scl.specs.declared.Response.{Response}
+use Rattle.scl.specs.declared.Mark.{Mark}
 use Rattle.spdu.specs.Signature.{byBits}
 use Rattle.spdu.specs.Fields.{responseBy, requestBy}
 use Rattle.spdu.specs.Built.{builtAs, buffersHold}
@@ -24,9 +25,9 @@ use Rattle.bench.specs.declared.Port.{Port}
 use Rattle.bench.specs.declared.Bench.{Bench}
 use Rattle.bench.specs.Ports.{portAt, stepOf, silent}
 use Rattle.bench.specs.Calls.{callRules, responseRules, requestRules, settled, parametersAs, placed, responseAt, requestAt, clockAt, operatorAt, parametersAt}
-use Rattle.bench.specs.Images.{composeAnswer, composed, buildAnswer, responseOut, splitAnswer}
+use Rattle.bench.specs.Images.{composeAnswer, composed, buildAnswer, responseOut, splitAnswer, handedOn, handedTo, handedOut}
 use Rattle.bench.specs.Shown.{trendOf, binsOf, masterOf, deviceOf}
-use Rattle.bench.specs.History.{Call, SetParameters, ReceiveResponse, ReceiveRequest, Clock, Operator, Compose, BuildResponse, Split, Trend, Bins, ShowMaster, ShowDevice, portOf, rulesOf, answerOf, after, history}
+use Rattle.bench.specs.History.{Look, Compose, BuildResponse, Split, HandOn, Trend, Bins, ShowMaster, ShowDevice, Call, SetParameters, ReceiveResponse, ReceiveRequest, Clock, Operator, Looks, portOf, lookRules, rulesOf, lookAnswer, answerOf, after, history}
 use Rattle.bench.proofs.Taken.{taken-is, on-buffers}
 use Rattle.bench.proofs.Index.{placed-refused}
 
@@ -46,8 +47,23 @@ response-length p s = cond-case (λ (r : Response). r .length ≡ length s) (eqb
 request-length : (p : Params) (s : List ℕ) → requestBy byBits p s .length ≡ length s
 request-length p s = cond-case (λ (r : Request). r .length ≡ length s) (eqb (length s) (p .SPDUOutLength)) (λ _. refl) (λ _. refl)
 
+look-answer : (port : ℕ) (p : Port) (look : Look) → lookAnswer port p look ≡ answerBy Taken (lookRules port p look)
+unfolding lookAnswer lookRules trendOf binsOf masterOf deviceOf composeAnswer buildAnswer splitAnswer handedTo
+look-answer port p (Compose process other octets) =
+    on-buffers (answerBy Taken (callRules port p)) (image.composerHolds (p .params) (length process) (length other) (length octets))
+look-answer port p (BuildResponse process out) =
+    on-buffers (answerBy Taken (callRules port p)) (buffersHold (p .params .«FSP_ProtMode») (p .params .SPDUInLength) (length process) (length out))
+look-answer port p (Split octets) =
+    on-buffers (answerBy Taken (callRules port p)) (image.splitterHolds (p .params) (length octets))
+look-answer port p (HandOn mark spdu safe out) =
+    on-buffers (answerBy Taken (callRules port p)) (leb (length (handedOn p mark spdu safe)) (length out))
+look-answer port p Trend = refl
+look-answer port p Bins = refl
+look-answer port p ShowMaster = refl
+look-answer port p ShowDevice = refl
+
 pub answer-is : (b : Bench) (c : Call) → answerOf b c ≡ answerBy Taken (rulesOf (portAt b (portOf c)) c)
-unfolding answerOf rulesOf portOf placed parametersAs silent trendOf binsOf masterOf deviceOf composeAnswer buildAnswer splitAnswer
+unfolding answerOf rulesOf portOf placed parametersAs silent
 answer-is b (SetParameters port at octets) = refl
 answer-is b (ReceiveResponse port at spdu safe) =
     let p = portAt b port in
@@ -57,19 +73,7 @@ answer-is b (ReceiveRequest port at spdu safe) =
     settled-answer p _ _ ∙ ap (λ (n : ℕ). answerBy Taken (requestRules port p n safe)) (request-length (p .params) spdu)
 answer-is b (Clock port at safeIn safeOut) = settled-answer (portAt b port) _ _
 answer-is b (Operator port at «setSD_C» «ChFAck_C» safe) = settled-answer (portAt b port) _ _
-answer-is b (Compose port process other octets) =
-    let p = portAt b port in
-    on-buffers (answerBy Taken (callRules port p)) (image.composerHolds (p .params) (length process) (length other) (length octets))
-answer-is b (BuildResponse port process out) =
-    let p = portAt b port in
-    on-buffers (answerBy Taken (callRules port p)) (buffersHold (p .params .«FSP_ProtMode») (p .params .SPDUInLength) (length process) (length out))
-answer-is b (Split port octets) =
-    let p = portAt b port in
-    on-buffers (answerBy Taken (callRules port p)) (image.splitterHolds (p .params) (length octets))
-answer-is b (Trend port) = refl
-answer-is b (Bins port) = refl
-answer-is b (ShowMaster port) = refl
-answer-is b (ShowDevice port) = refl
+answer-is b (Looks port look) = look-answer port (portAt b port) look
 
 -- ---- exactly one answer, for every call: the first rule's that is broken, and TAKEN where none is
 
@@ -78,6 +82,17 @@ Exactly rules =
     ((isTaken (answerBy Taken rules) ≡ true) ↔ Kept rules)
     × ((i : ℕ) → i < length rules → (answerBy Taken rules ≡ answerAt rules i) ↔ First rules i)
 
+look-exactly : (port : ℕ) (p : Port) (look : Look) → Exactly (lookRules port p look)
+unfolding lookRules
+look-exactly port p (Compose process other octets) = (taken-exactly _ tt tt, given-exactly _ tt tt)
+look-exactly port p (BuildResponse process out) = (taken-exactly _ tt tt, given-exactly _ tt tt)
+look-exactly port p (Split octets) = (taken-exactly _ tt tt, given-exactly _ tt tt)
+look-exactly port p (HandOn mark spdu safe out) = (taken-exactly _ tt tt, given-exactly _ tt tt)
+look-exactly port p Trend = (taken-exactly _ tt tt, given-exactly _ tt tt)
+look-exactly port p Bins = (taken-exactly _ tt tt, given-exactly _ tt tt)
+look-exactly port p ShowMaster = (taken-exactly _ tt tt, given-exactly _ tt tt)
+look-exactly port p ShowDevice = (taken-exactly _ tt tt, given-exactly _ tt tt)
+
 pub exactly : (p : Port) (c : Call) → Exactly (rulesOf p c)
 unfolding rulesOf
 exactly p (SetParameters port at octets) = (taken-exactly _ tt tt, given-exactly _ tt tt)
@@ -85,13 +100,7 @@ exactly p (ReceiveResponse port at spdu safe) = (taken-exactly _ tt tt, given-ex
 exactly p (ReceiveRequest port at spdu safe) = (taken-exactly _ tt tt, given-exactly _ tt tt)
 exactly p (Clock port at safeIn safeOut) = (taken-exactly _ tt tt, given-exactly _ tt tt)
 exactly p (Operator port at «setSD_C» «ChFAck_C» safe) = (taken-exactly _ tt tt, given-exactly _ tt tt)
-exactly p (Compose port process other octets) = (taken-exactly _ tt tt, given-exactly _ tt tt)
-exactly p (BuildResponse port process out) = (taken-exactly _ tt tt, given-exactly _ tt tt)
-exactly p (Split port octets) = (taken-exactly _ tt tt, given-exactly _ tt tt)
-exactly p (Trend port) = (taken-exactly _ tt tt, given-exactly _ tt tt)
-exactly p (Bins port) = (taken-exactly _ tt tt, given-exactly _ tt tt)
-exactly p (ShowMaster port) = (taken-exactly _ tt tt, given-exactly _ tt tt)
-exactly p (ShowDevice port) = (taken-exactly _ tt tt, given-exactly _ tt tt)
+exactly p (Looks port look) = look-exactly port p look
 
 -- ---- a refused call changes nothing
 
@@ -104,13 +113,7 @@ refused-same b (ReceiveRequest port at spdu safe) e =
     let p = portAt b port in placed-refused b port (requestAt port p at (requestBy byBits (p .params) spdu) safe) e
 refused-same b (Clock port at safeIn safeOut) e = placed-refused b port (clockAt port (portAt b port) at safeIn safeOut) e
 refused-same b (Operator port at «setSD_C» «ChFAck_C» safe) e = placed-refused b port (operatorAt port (portAt b port) at «setSD_C» «ChFAck_C» safe) e
-refused-same b (Compose port process other octets) e = refl
-refused-same b (BuildResponse port process out) e = refl
-refused-same b (Split port octets) e = refl
-refused-same b (Trend port) e = refl
-refused-same b (Bins port) e = refl
-refused-same b (ShowMaster port) e = refl
-refused-same b (ShowDevice port) e = refl
+refused-same b (Looks port look) e = refl
 
 -- so it could be left out of the history with no difference afterwards
 pub left-out : (later : List Call) (c : Call) (past : List Call) → isTaken (answerOf (history past) c) ≡ false → history (later ++ c ∷ past) ≡ history (later ++ past)
@@ -137,3 +140,8 @@ pub build-refused : (port : ℕ) (p : Port) (process out : List ℕ) → isTaken
 unfolding buildAnswer responseOut
 build-refused port p process out e =
     unwritten (answerBy Taken (callRules port p)) (buffersHold (p .params .«FSP_ProtMode») (p .params .SPDUInLength) (length process) (length out)) _ out e
+
+pub handed-refused : (port : ℕ) (p : Port) (mark : Mark) (spdu safe out : List ℕ) → isTaken (handedTo port p mark spdu safe (length out) .answer) ≡ false → handedOut port p mark spdu safe out ≡ out
+unfolding handedTo handedOut
+handed-refused port p mark spdu safe out e =
+    unwritten (answerBy Taken (callRules port p)) (leb (length (handedOn p mark spdu safe)) (length out)) _ out e

@@ -35,10 +35,10 @@ use Rattle.histogram.specs.Trends.{Shows}
 use Rattle.bench.specs.declared.Port.{Port}
 use Rattle.bench.specs.Ports.{newPort, acceptedPort, newBench, noPort, portAt, withPort, tallied, stepOf, silent}
 use Rattle.bench.specs.Calls as calls
-use Rattle.bench.specs.Images.{composeAnswer, composed, buildAnswer, responseOut}
+use Rattle.bench.specs.Images.{composeAnswer, composed, buildAnswer, responseOut, handedTo, handedOut}
 use Rattle.bench.specs.Shown.{trendOf}
 use Rattle.bench.specs.History.{Call, SetParameters, ReceiveResponse, ReceiveRequest, Clock, portOf, answerOf, after, history, goesOn, extended, since, sinceBlock, oldBy, sentSince, answered, timeOf, isSample, samples, StandsSince, Stands, Arising, blockIn, OctetsIn, no-call, one-more}
-use Rattle.bench.proofs.Answers.{refused-same, left-out, compose-refused, build-refused}
+use Rattle.bench.proofs.Answers.{refused-same, left-out, compose-refused, build-refused, handed-refused}
 use Rattle.bench.proofs.AtPort.{eight, takenAt, taken-at, other-at}
 use Rattle.bench.proofs.History.{stands}
 use Rattle.bench.proofs.Release.{passed-first, acknowledged, cycles-first, after-error}
@@ -189,6 +189,10 @@ compose-refused-met = compose-refused 2 newPort [] [] (7 ∷ []) refl
 pub build-refused-met : responseOut 2 newPort [] (7 ∷ []) ≡ 7 ∷ []
 unfolding buildAnswer newPort
 build-refused-met = build-refused 2 newPort [] (7 ∷ []) refl
+
+pub handed-refused-met : handedOut 2 newPort Fresh response safe (7 ∷ []) ≡ 7 ∷ []
+unfolding handedTo newPort
+handed-refused-met = handed-refused 2 newPort Fresh response safe (7 ∷ []) refl
 
 -- ---- what is handed on: process octets by the response and the last request, safe values before
 

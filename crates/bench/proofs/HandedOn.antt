@@ -1,11 +1,11 @@
 -- What a call that is not refused hands on, and what a refused one does. Assumes nothing.
 use Prim.Native.Nat.{ℕ}
 use mathlib.Core.Path.{_≡_, refl, ap, ap₂, _∙_}
-use mathlib.Core.Bool.{Bool, true, false, cond, not, _&&_}
+use mathlib.Core.Bool.{Bool, true, false, cond, _&&_}
 use mathlib.Core.List.{List, [], _∷_}
 use lib.Dec.{eqb}
 use lib.ListN.{length, replicate}
-use borrow.Author.Tests.{eqb-true}
+use borrow.Author.Tests.{eqb-true, not-false}
 use Rattle.answer.specs.declared.Answer.{Answer}
 use Rattle.answer.specs.declared.Answer.the-variants.{Taken}
 use Rattle.answer.specs.Answers.{isTaken}
@@ -19,7 +19,7 @@ use Rattle.spdu.specs.Image as image
 use Rattle.scl.specs.Happenings.{markOf}
 use Rattle.scl.specs.declared.Happening.{Happening}
 use Rattle.scl.specs.declared.Happening.the-variants as happening
-use Rattle.scl.proofs.Cases.{no, and-left, and-right}
+use Rattle.scl.proofs.Cases.{and-left, and-right}
 use Rattle.fs_master.specs.declared.Master.{Master}
 use Rattle.fs_master.specs.declared.Row as masterRow
 use Rattle.fs_master.specs.Table38 as table38
@@ -86,10 +86,6 @@ hands : {mark : Mark} (row releases : Bool) (mode n : ℕ) (spdu safe : List ℕ
 hands {mark} row releases mode n spdu safe e s =
     ap (λ (k : Mark). image.handedOn k mode spdu safe) e ∙ part row releases mode spdu safe ∙ ap (λ (z : List ℕ). cond releases (cond row (processOf mode spdu) []) z) (zeros mode n safe s)
 
-kept-true : (b : Bool) → not b ≡ false → b ≡ true
-kept-true true e = refl
-kept-true false e = no (cc)
-
 -- ---- each call that is not refused
 
 settled-taken : (p : Port) (a : Answer) (h : Happening) → isTaken a ≡ true → settled p a h ≡ stepOf p h
@@ -109,7 +105,7 @@ module _ (port : ℕ) (p : Port) (at : ℕ) where
       let rules = responseRules port p (f .length) safe in
       let kept : Kept rules = taken-exactly rules tt tt .0 t in
       rw (settled-taken p (answerBy Taken rules) (happening.Response at f) t)
-      (hands (responseTaken p at f) (stepOf p (happening.Response at f) .reply .«master_releases») (p .params .«FSP_ProtMode») (p .params .SPDUInLength) spdu safe (response-mark (p .master) (p .params .«FSP_WatchdogTime») at f) (kept-true (safeInHold (p .params) safe) (kept .each 3)))
+      (hands (responseTaken p at f) (stepOf p (happening.Response at f) .reply .«master_releases») (p .params .«FSP_ProtMode») (p .params .SPDUInLength) spdu safe (response-mark (p .master) (p .params .«FSP_WatchdogTime») at f) (not-false (safeInHold (p .params) safe) (kept .each 3)))
 
   -- an SPDU as FS-Device, q as it was read
   pub request-hands-on : (q : Request) (spdu safe : List ℕ) → isTaken (answerBy Taken (requestRules port p (q .length) safe)) ≡ true
@@ -120,14 +116,14 @@ module _ (port : ℕ) (p : Port) (at : ℕ) where
       let rules = requestRules port p (q .length) safe in
       let kept : Kept rules = taken-exactly rules tt tt .0 t in
       rw (settled-taken p (answerBy Taken rules) (happening.Request at q) t)
-      (hands (requestTaken p at q) (stepOf p (happening.Request at q) .reply .«device_releases») (p .params .«FSP_ProtMode») (p .params .SPDUOutLength) spdu safe (request-mark (p .device) (p .params .«FSP_WatchdogTime») at q) (kept-true (safeOutHold (p .params) safe) (kept .each 3)))
+      (hands (requestTaken p at q) (stepOf p (happening.Request at q) .reply .«device_releases») (p .params .«FSP_ProtMode») (p .params .SPDUOutLength) spdu safe (request-mark (p .device) (p .params .«FSP_WatchdogTime») at q) (not-false (safeOutHold (p .params) safe) (kept .each 3)))
 
   -- a clock reading, for both ends
   module _ (safeIn safeOut : List ℕ) (t : isTaken (answerBy Taken (clockRules port p safeIn safeOut)) ≡ true) where
     both-hold : (safeInHold (p .params) safeIn && safeOutHold (p .params) safeOut) ≡ true
     both-hold =
         let kept : Kept (clockRules port p safeIn safeOut) = taken-exactly (clockRules port p safeIn safeOut) tt tt .0 t in
-        kept-true (safeInHold (p .params) safeIn && safeOutHold (p .params) safeOut) (kept .each 2)
+        not-false (safeInHold (p .params) safeIn && safeOutHold (p .params) safeOut) (kept .each 2)
 
     pub clock-hands-on-in : let r = clockAt port p at safeIn safeOut .reply in handed (r .master) [] safeIn ≡ handsOn (r .«master_releases») false [] (octetsIn p)
     unfolding stepOf masters.stepOf masters.watched masters.quiet
@@ -150,7 +146,7 @@ module _ (port : ℕ) (p : Port) (at : ℕ) where
       let rules = operatorRules port p safe in
       let kept : Kept rules = taken-exactly rules tt tt .0 t in
       rw (settled-taken p (answerBy Taken rules) (happening.Operator at «setSD_C» «ChFAck_C») t)
-      (hands false (stepOf p (happening.Operator at «setSD_C» «ChFAck_C») .reply .«master_releases») (p .params .«FSP_ProtMode») (p .params .SPDUInLength) [] safe refl (kept-true (safeInHold (p .params) safe) (kept .each 2)))
+      (hands false (stepOf p (happening.Operator at «setSD_C» «ChFAck_C») .reply .«master_releases») (p .params .«FSP_ProtMode») (p .params .SPDUInLength) [] safe refl (not-false (safeInHold (p .params) safe) (kept .each 2)))
 
 -- ---- a refused call hands on nothing, and says that nothing is released
 pub refused-hands-on : (p : Port) (a : Answer) (h : Happening) → isTaken a ≡ false → settled p a h .reply ≡ silent a

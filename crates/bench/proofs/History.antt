@@ -4,7 +4,7 @@ use mathlib.Core.Path.{_≡_, refl, sym, ap, ap₂, _∙_}
 use mathlib.Core.Bool.{Bool, true, false, cond, not, _&&_}
 use mathlib.Core.List.{List, [], _∷_, _++_, append-nil}
 use lib.Dec.{eqb, leb}
-use borrow.Author.Tests.{eqb-true, leb-true}
+use borrow.Author.Tests.{eqb-true, leb-true, not-false}
 use Rattle.answer.specs.declared.Answer.the-variants.{Taken}
 use Rattle.answer.specs.Answers.{isTaken}
 use Rattle.answer.specs.Rules.{Kept, answerBy}
@@ -31,7 +31,7 @@ use Rattle.histogram.proofs.Counting.{cleared-holds, counted-holds}
 use Rattle.histogram.proofs.Samples.{within-more}
 use Rattle.bench.specs.declared.Port.{Port}
 use Rattle.bench.specs.Ports.{newPort, acceptedPort, portAt, tallied, stepOf}
-use Rattle.bench.specs.History.{Call, SetParameters, ReceiveResponse, ReceiveRequest, Clock, Operator, Compose, BuildResponse, Split, Trend, Bins, ShowMaster, ShowDevice, portOf, rulesOf, answerOf, after, history, Since, never, since, goesOn, extended, sinceBlock, timeOf, isSample, samples, StandsSince, Stands}
+use Rattle.bench.specs.History.{Call, SetParameters, ReceiveResponse, ReceiveRequest, Clock, Operator, Looks, portOf, rulesOf, answerOf, after, history, Since, never, since, goesOn, extended, sinceBlock, timeOf, isSample, samples, StandsSince, Stands}
 use Rattle.bench.proofs.Index.{new-at}
 use Rattle.bench.proofs.Answers.{answer-is, exactly, refused-same}
 use Rattle.bench.proofs.AtPort.{eight, takenAt, taken-at, other-at}
@@ -97,10 +97,6 @@ module _ (p : Port) (at : ℕ) (params : Params) (past : List Happening) (s : St
 
 -- ---- one call that is not refused
 
-kept-true : (b : Bool) → not b ≡ false → b ≡ true
-kept-true true e = refl
-kept-true false e = no (cc)
-
 goes-stands : (p : Port) (h : Params → Happening) (s : Since) → p .running ≡ true → Stands p s → Stands (stepOf p (h (p .params)) .port) (goesOn s h)
 unfolding Stands goesOn newPort
 goes-stands p h never r z = let e : true ≡ false = sym r ∙ ap (λ (q : Port). q .running) z in no e
@@ -109,7 +105,7 @@ goes-stands p h (since at params past) r z =
 
 small-watchdog : (octets : List ℕ) (port : ℕ) (p : Port) (at : ℕ) → Kept (rulesOf p (SetParameters port at octets)) → paramsOf octets .«FSP_WatchdogTime» ≤ 65535
 unfolding rulesOf
-small-watchdog octets port p at k = let w = paramsOf octets .«FSP_WatchdogTime» in leb-true w 65535 (and-right (leb 1 w) (leb w 65535) (kept-true (leb 1 w && leb w 65535) (k .each 14)))
+small-watchdog octets port p at k = let w = paramsOf octets .«FSP_WatchdogTime» in leb-true w 65535 (and-right (leb 1 w) (leb w 65535) (not-false (leb 1 w && leb w 65535) (k .each 14)))
 
 taken-stands : (p : Port) (s : Since) (c : Call) → Kept (rulesOf p c) → Stands p s → Stands (takenAt p c) (extended s c)
 unfolding takenAt extended rulesOf Stands acceptedPort masterAfter deviceAfter samples
@@ -122,17 +118,11 @@ taken-stands p s (SetParameters port at octets) k z = record {
   within = none;
   small = small-watchdog octets port p at k;
 }
-taken-stands p s (ReceiveResponse port at spdu safe) k z = goes-stands p (λ q. happening.Response at (responseBy byBits q spdu)) s (kept-true (p .running) (k .each 1)) z
-taken-stands p s (ReceiveRequest port at spdu safe) k z = goes-stands p (λ q. happening.Request at (requestBy byBits q spdu)) s (kept-true (p .running) (k .each 1)) z
-taken-stands p s (Clock port at safeIn safeOut) k z = goes-stands p (λ q. happening.Clock at) s (kept-true (p .running) (k .each 1)) z
-taken-stands p s (Operator port at «setSD_C» «ChFAck_C» safe) k z = goes-stands p (λ q. happening.Operator at «setSD_C» «ChFAck_C») s (kept-true (p .running) (k .each 1)) z
-taken-stands p s (Compose port process other octets) k z = z
-taken-stands p s (BuildResponse port process out) k z = z
-taken-stands p s (Split port octets) k z = z
-taken-stands p s (Trend port) k z = z
-taken-stands p s (Bins port) k z = z
-taken-stands p s (ShowMaster port) k z = z
-taken-stands p s (ShowDevice port) k z = z
+taken-stands p s (ReceiveResponse port at spdu safe) k z = goes-stands p (λ q. happening.Response at (responseBy byBits q spdu)) s (not-false (p .running) (k .each 1)) z
+taken-stands p s (ReceiveRequest port at spdu safe) k z = goes-stands p (λ q. happening.Request at (requestBy byBits q spdu)) s (not-false (p .running) (k .each 1)) z
+taken-stands p s (Clock port at safeIn safeOut) k z = goes-stands p (λ q. happening.Clock at) s (not-false (p .running) (k .each 1)) z
+taken-stands p s (Operator port at «setSD_C» «ChFAck_C» safe) k z = goes-stands p (λ q. happening.Operator at «setSD_C» «ChFAck_C») s (not-false (p .running) (k .each 1)) z
+taken-stands p s (Looks port look) k z = z
 
 -- ---- every history
 

@@ -42,7 +42,7 @@ use Rattle.bench.specs.declared.Port.{Port}
 use Rattle.bench.specs.Ports.{newPort, portAt}
 use Rattle.bench.specs.Calls.{placed, parametersAs}
 use Rattle.bench.specs.Ports.{silent}
-use Rattle.bench.specs.History.{Call, SetParameters, ReceiveResponse, ReceiveRequest, Clock, Operator, Compose, BuildResponse, Split, Trend, Bins, ShowMaster, ShowDevice, portOf, answerOf, history, Since, never, since, goesOn, extended, sinceBlock, Previous, previousBy, lastTaken, Stands, Arising, blockIn, OctetsIn, no-call, one-more}
+use Rattle.bench.specs.History.{Call, SetParameters, ReceiveResponse, ReceiveRequest, Clock, Operator, Looks, portOf, answerOf, history, Since, never, since, goesOn, extended, sinceBlock, Previous, previousBy, lastTaken, Stands, Arising, blockIn, OctetsIn, no-call, one-more}
 use Rattle.bench.proofs.Samples.{previous-is}
 use Rattle.bench.proofs.History.{stands}
 
@@ -182,13 +182,7 @@ extended-sound q past (ReceiveResponse port at spdu safe) s e t o z = goes-sound
 extended-sound q past (ReceiveRequest port at spdu safe) s e t o z = goes-sound q s (λ p. happening.Request at (requestBy byBits p spdu)) (λ p. request-read p spdu) z
 extended-sound q past (Clock port at safeIn safeOut) s e t o z = goes-sound q s (λ p. happening.Clock at) (λ p. refl) z
 extended-sound q past (Operator port at «setSD_C» «ChFAck_C» safe) s e t o z = goes-sound q s (λ p. happening.Operator at «setSD_C» «ChFAck_C») (λ p. refl) z
-extended-sound q past (Compose port process other octets) s e t o z = z
-extended-sound q past (BuildResponse port process out) s e t o z = z
-extended-sound q past (Split port octets) s e t o z = z
-extended-sound q past (Trend port) s e t o z = z
-extended-sound q past (Bins port) s e t o z = z
-extended-sound q past (ShowMaster port) s e t o z = z
-extended-sound q past (ShowDevice port) s e t o z = z
+extended-sound q past (Looks port look) s e t o z = z
 
 sounds : (q : ℕ) (past : List Call) → OctetsIn past → Sounds q (sinceBlock q past)
 unfolding sinceBlock Sounds

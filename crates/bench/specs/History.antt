@@ -16,6 +16,7 @@ use Rattle.block.specs.Table22.{paramsOf}
 use Rattle.block.specs.Rules.{rulesOn}
 use Rattle.scl.specs.declared.Request.{Request}
 use Rattle.scl.specs.declared.Response.{Response}
+use Rattle.scl.specs.declared.Mark.{Mark}
 use Rattle.spdu.specs.Places.{processOctets}
 use Rattle.spdu.specs.Signature.{byBits}
 use Rattle.spdu.specs.Fields.{responseBy, requestBy}
@@ -37,25 +38,30 @@ use Rattle.bench.specs.declared.Port.{Port}
 use Rattle.bench.specs.declared.Bench.{Bench}
 use Rattle.bench.specs.Ports.{newPort, newBench, portAt}
 use Rattle.bench.specs.Calls as calls
-use Rattle.bench.specs.Images.{composeAnswer, buildAnswer, splitAnswer}
+use Rattle.bench.specs.Images.{composeAnswer, buildAnswer, splitAnswer, handedOn, handedTo}
 use Rattle.bench.specs.Shown.{trendRules, trendOf, binsOf, masterOf, deviceOf}
 
 -- ---- Calls
 
--- every call, with what is lent to it
+-- a call without a reading, with what is lent to it
+pub data Look : Type 0 where
+  Compose : (process other octets : List ℕ) → Look
+  BuildResponse : (process out : List ℕ) → Look
+  Split : (octets : List ℕ) → Look
+  HandOn : (mark : Mark) (spdu safe out : List ℕ) → Look
+  Trend : Look
+  Bins : Look
+  ShowMaster : Look
+  ShowDevice : Look
+
+-- every call
 pub data Call : Type 0 where
   SetParameters : (port at : ℕ) (octets : List ℕ) → Call
   ReceiveResponse : (port at : ℕ) (spdu safe : List ℕ) → Call
   ReceiveRequest : (port at : ℕ) (spdu safe : List ℕ) → Call
   Clock : (port at : ℕ) (safeIn safeOut : List ℕ) → Call
   Operator : (port at : ℕ) («setSD_C» «ChFAck_C» : Bool) (safe : List ℕ) → Call
-  Compose : (port : ℕ) (process other octets : List ℕ) → Call
-  BuildResponse : (port : ℕ) (process out : List ℕ) → Call
-  Split : (port : ℕ) (octets : List ℕ) → Call
-  Trend : (port : ℕ) → Call
-  Bins : (port : ℕ) → Call
-  ShowMaster : (port : ℕ) → Call
-  ShowDevice : (port : ℕ) → Call
+  Looks : (port : ℕ) (look : Look) → Call
 
 -- the port addressed
 unfoldable pub portOf : Call → ℕ
@@ -64,43 +70,51 @@ portOf (ReceiveResponse port at spdu safe) = port
 portOf (ReceiveRequest port at spdu safe) = port
 portOf (Clock port at safeIn safeOut) = port
 portOf (Operator port at «setSD_C» «ChFAck_C» safe) = port
-portOf (Compose port process other octets) = port
-portOf (BuildResponse port process out) = port
-portOf (Split port octets) = port
-portOf (Trend port) = port
-portOf (Bins port) = port
-portOf (ShowMaster port) = port
-portOf (ShowDevice port) = port
+portOf (Looks port look) = port
 
 -- 01's table: the rules on a call in their order, p being the port addressed
+
+-- 8, 9, and 7 where what is lent does not fit (R27)
+abbrev pub bufferRules : ℕ → Port → Bool → List Rule
+bufferRules port p fits = calls.callRules port p ++ (rule (not fits) Buffer ∷ [])
+
+unfoldable pub lookRules : ℕ → Port → Look → List Rule
+lookRules port p (Compose process other octets) = bufferRules port p (image.composerHolds (p .params) (length process) (length other) (length octets))
+lookRules port p (BuildResponse process out) =
+    bufferRules port p (buffersHold (p .params .«FSP_ProtMode») (p .params .SPDUInLength) (length process) (length out))
+lookRules port p (Split octets) = bufferRules port p (image.splitterHolds (p .params) (length octets))
+lookRules port p (HandOn mark spdu safe out) = bufferRules port p (leb (length (handedOn p mark spdu safe)) (length out))
+lookRules port p Trend = trendRules port p
+lookRules port p Bins = calls.callRules port p
+lookRules port p ShowMaster = calls.callRules port p
+lookRules port p ShowDevice = calls.callRules port p
+
 unfoldable pub rulesOf : Port → Call → List Rule
 rulesOf p (SetParameters port at octets) = rulesOn octets port
 rulesOf p (ReceiveResponse port at spdu safe) = calls.responseRules port p (length spdu) safe
 rulesOf p (ReceiveRequest port at spdu safe) = calls.requestRules port p (length spdu) safe
 rulesOf p (Clock port at safeIn safeOut) = calls.clockRules port p safeIn safeOut
 rulesOf p (Operator port at «setSD_C» «ChFAck_C» safe) = calls.operatorRules port p safe
-rulesOf p (Compose port process other octets) = calls.callRules port p ++ (rule (not (image.composerHolds (p .params) (length process) (length other) (length octets))) Buffer ∷ [])
-rulesOf p (BuildResponse port process out) = calls.callRules port p ++ (rule (not (buffersHold (p .params .«FSP_ProtMode») (p .params .SPDUInLength) (length process) (length out))) Buffer ∷ [])
-rulesOf p (Split port octets) = calls.callRules port p ++ (rule (not (image.splitterHolds (p .params) (length octets))) Buffer ∷ [])
-rulesOf p (Trend port) = trendRules port p
-rulesOf p (Bins port) = calls.callRules port p
-rulesOf p (ShowMaster port) = calls.callRules port p
-rulesOf p (ShowDevice port) = calls.callRules port p
+rulesOf p (Looks port look) = lookRules port p look
 
 -- the answer that the call's contract gives
+unfoldable pub lookAnswer : ℕ → Port → Look → Answer
+lookAnswer port p (Compose process other octets) = composeAnswer port p process other octets
+lookAnswer port p (BuildResponse process out) = buildAnswer port p process out
+lookAnswer port p (Split octets) = splitAnswer port p octets
+lookAnswer port p (HandOn mark spdu safe out) = handedTo port p mark spdu safe (length out) .answer
+lookAnswer port p Trend = trendOf port p .answer
+lookAnswer port p Bins = binsOf port p .answer
+lookAnswer port p ShowMaster = masterOf port p .answer
+lookAnswer port p ShowDevice = deviceOf port p .answer
+
 unfoldable pub answerOf : Bench → Call → Answer
 answerOf b (SetParameters port at octets) = calls.setParameters b port at octets .reply .answer
 answerOf b (ReceiveResponse port at spdu safe) = calls.receiveResponse b port at spdu safe .reply .answer
 answerOf b (ReceiveRequest port at spdu safe) = calls.receiveRequest b port at spdu safe .reply .answer
 answerOf b (Clock port at safeIn safeOut) = calls.clock b port at safeIn safeOut .reply .answer
 answerOf b (Operator port at «setSD_C» «ChFAck_C» safe) = calls.operator b port at «setSD_C» «ChFAck_C» safe .reply .answer
-answerOf b (Compose port process other octets) = composeAnswer port (portAt b port) process other octets
-answerOf b (BuildResponse port process out) = buildAnswer port (portAt b port) process out
-answerOf b (Split port octets) = splitAnswer port (portAt b port) octets
-answerOf b (Trend port) = trendOf port (portAt b port) .answer
-answerOf b (Bins port) = binsOf port (portAt b port) .answer
-answerOf b (ShowMaster port) = masterOf port (portAt b port) .answer
-answerOf b (ShowDevice port) = deviceOf port (portAt b port) .answer
+answerOf b (Looks port look) = lookAnswer port (portAt b port) look
 
 -- the bench after the call; calls without a reading return none, so it stays (R25)
 unfoldable pub after : Bench → Call → Bench
@@ -109,13 +123,7 @@ after b (ReceiveResponse port at spdu safe) = calls.receiveResponse b port at sp
 after b (ReceiveRequest port at spdu safe) = calls.receiveRequest b port at spdu safe .bench
 after b (Clock port at safeIn safeOut) = calls.clock b port at safeIn safeOut .bench
 after b (Operator port at «setSD_C» «ChFAck_C» safe) = calls.operator b port at «setSD_C» «ChFAck_C» safe .bench
-after b (Compose port process other octets) = b
-after b (BuildResponse port process out) = b
-after b (Split port octets) = b
-after b (Trend port) = b
-after b (Bins port) = b
-after b (ShowMaster port) = b
-after b (ShowDevice port) = b
+after b (Looks port look) = b
 
 unfoldable pub history : List Call → Bench
 history [] = newBench
@@ -145,13 +153,7 @@ extended s (ReceiveResponse port at spdu safe) = goesOn s (λ params. happening.
 extended s (ReceiveRequest port at spdu safe) = goesOn s (λ params. happening.Request at (requestBy byBits params spdu))
 extended s (Clock port at safeIn safeOut) = goesOn s (λ params. happening.Clock at)
 extended s (Operator port at «setSD_C» «ChFAck_C» safe) = goesOn s (λ params. happening.Operator at «setSD_C» «ChFAck_C»)
-extended s (Compose port process other octets) = s
-extended s (BuildResponse port process out) = s
-extended s (Split port octets) = s
-extended s (Trend port) = s
-extended s (Bins port) = s
-extended s (ShowMaster port) = s
-extended s (ShowDevice port) = s
+extended s (Looks port look) = s
 
 -- of port q: the calls to it that were not refused, since its last accepted block
 unfoldable pub sinceBlock : ℕ → List Call → Since
@@ -270,13 +272,7 @@ blockIn (ReceiveResponse port at spdu safe) = []
 blockIn (ReceiveRequest port at spdu safe) = []
 blockIn (Clock port at safeIn safeOut) = []
 blockIn (Operator port at «setSD_C» «ChFAck_C» safe) = []
-blockIn (Compose port process other octets) = []
-blockIn (BuildResponse port process out) = []
-blockIn (Split port octets) = []
-blockIn (Trend port) = []
-blockIn (Bins port) = []
-blockIn (ShowMaster port) = []
-blockIn (ShowDevice port) = []
+blockIn (Looks port look) = []
 
 -- its elements are octets
 pub data OctetsIn : List Call → Type 0 where
