@@ -32,12 +32,14 @@ use Rattle.fs_device.specs.History.{deviceAfter, passedSince, hadErrorOrTimeout
 use Rattle.histogram.specs.Samples.{limit, sumOf, lowestOf, highestOf}
 use Rattle.histogram.specs.Counted as counted
 use Rattle.histogram.specs.Trends.{Shows}
+use Rattle.samples.specs.Tallied.{tallied}
+use Rattle.samples.specs.Samples.{oldBy, sentSince, answered, timeOf, isSample, samples}
 use Rattle.bench.specs.declared.Port.{Port}
-use Rattle.bench.specs.Ports.{newPort, acceptedPort, newBench, noPort, portAt, withPort, tallied, stepOf, silent}
+use Rattle.bench.specs.Ports.{newPort, acceptedPort, newBench, noPort, portAt, withPort, stepOf, silent}
 use Rattle.bench.specs.Calls as calls
 use Rattle.bench.specs.Images.{composeAnswer, composed, buildAnswer, responseOut, handedTo, handedOut}
 use Rattle.bench.specs.Shown.{trendOf}
-use Rattle.bench.specs.History.{Call, SetParameters, ReceiveResponse, ReceiveRequest, Clock, portOf, answerOf, after, history, goesOn, extended, since, sinceBlock, oldBy, sentSince, answered, timeOf, isSample, samples, StandsSince, Stands, Arising, blockIn, OctetsIn, no-call, one-more}
+use Rattle.bench.specs.History.{Call, SetParameters, ReceiveResponse, ReceiveRequest, Clock, portOf, answerOf, after, history, goesOn, extended, since, sinceBlock, StandsSince, Stands, Arising, blockIn, OctetsIn, no-call, one-more}
 use Rattle.bench.proofs.Answers.{refused-same, left-out, compose-refused, build-refused, handed-refused}
 use Rattle.bench.proofs.AtPort.{eight, takenAt, taken-at, other-at}
 use Rattle.bench.proofs.History.{stands}

@@ -13,8 +13,6 @@ use Rattle.block.specs.declared.Params.{Params}
 use Rattle.block.specs.Table22.{paramsOf}
 use Rattle.spdu.specs.Signature.{byBits}
 use Rattle.spdu.specs.Fields.{responseBy, requestBy}
-use Rattle.scl.specs.Time.{elapsedOf}
-use Rattle.scl.specs.Happenings.{readingOf}
 use Rattle.scl.specs.declared.Happening.{Happening}
 use Rattle.scl.specs.declared.Happening.the-variants as happening
 use Rattle.scl.proofs.Cases.{no, and-right}
@@ -25,61 +23,29 @@ use Rattle.fs_device.specs.declared.Device.{Device}
 use Rattle.fs_device.specs.Calls as devices
 use Rattle.fs_device.specs.History.{deviceAfter}
 use Rattle.histogram.specs.declared.Histogram.{Histogram}
-use Rattle.histogram.specs.Samples.{Within, none, Holds}
-use Rattle.histogram.specs.Counted.{countedOf}
-use Rattle.histogram.proofs.Counting.{cleared-holds, counted-holds}
-use Rattle.histogram.proofs.Samples.{within-more}
+use Rattle.histogram.specs.Samples.{none}
+use Rattle.histogram.proofs.Counting.{cleared-holds}
+use Rattle.samples.specs.Tallied.{stepped}
+use Rattle.samples.specs.Samples.{samples, histogramAfter}
+use Rattle.samples.proofs.Counted.{samples-within, samples-held}
 use Rattle.bench.specs.declared.Port.{Port}
-use Rattle.bench.specs.Ports.{newPort, acceptedPort, portAt, tallied, stepOf}
-use Rattle.bench.specs.History.{Call, SetParameters, ReceiveResponse, ReceiveRequest, Clock, Operator, Looks, portOf, rulesOf, answerOf, after, history, Since, never, since, goesOn, extended, sinceBlock, timeOf, isSample, samples, StandsSince, Stands}
+use Rattle.bench.specs.Ports.{newPort, acceptedPort, portAt, stepOf}
+use Rattle.bench.specs.History.{Call, SetParameters, ReceiveResponse, ReceiveRequest, Clock, Operator, Looks, portOf, rulesOf, answerOf, after, history, Since, never, since, goesOn, extended, sinceBlock, StandsSince, Stands}
 use Rattle.bench.proofs.Index.{new-at}
 use Rattle.bench.proofs.Answers.{answer-is, exactly, refused-same}
 use Rattle.bench.proofs.AtPort.{eight, takenAt, taken-at, other-at}
-use Rattle.bench.proofs.Samples.{time-is, sample-is}
 
 -- ---- one happening
-
--- the histogram after it, of a port with this FS-Master and this W
-stepped : Histogram → Happening → Master → ℕ → Histogram
-stepped k h m w =
-    let o = masters.stepOf m w h in
-    tallied k w (o .passed && not (o .old)) (elapsedOf (readingOf h) (masters.judged m w (readingOf h) .sample))
-
-module _ (at w : ℕ) (past : List Happening) (h : Happening) (k : Histogram) where
-  counts : stepped k h (masterAfter at w past) w ≡ cond (isSample at w past h) (countedOf k w (timeOf at w past h)) k
-  unfolding tallied stepped
-  counts =
-      let o = masters.stepOf (masterAfter at w past) w h in
-      ap (λ (t : ℕ). tallied k w (o .passed && not (o .old)) t) (time-is at w past h)
-      ∙ ap (λ (b : Bool). cond b (countedOf k w (timeOf at w past h)) k) (sym (sample-is at w past h))
-
-  in-time : isSample at w past h ≡ true → timeOf at w past h ≤ w
-  in-time e = leb-true (timeOf at w past h) w (and-right (masters.stepOf (masterAfter at w past) w h .passed && not (masters.stepOf (masterAfter at w past) w h .old)) (leb (timeOf at w past h) w) (sym (sample-is at w past h) ∙ e))
-
-  module _ (small : w ≤ 65535) (within : Within w (samples at w past)) (holds : Holds w (samples at w past) k) where
-    one-more : (b : Bool) → isSample at w past h ≡ b → Holds w (samples at w past ++ cond b (timeOf at w past h ∷ []) []) (cond b (countedOf k w (timeOf at w past h)) k)
-    one-more true e = counted-holds small within holds (timeOf at w past h) (in-time e)
-    one-more false e = rw append-nil holds
-
-    one-within : (b : Bool) → isSample at w past h ≡ b → Within w (samples at w past ++ cond b (timeOf at w past h ∷ []) [])
-    one-within true e = within-more (timeOf at w past h) within (in-time e)
-    one-within false e = rw append-nil within
-
-    counted-on : Holds w (samples at w (h ∷ past)) (cond (isSample at w past h) (countedOf k w (timeOf at w past h)) k)
-    unfolding samples
-    counted-on = one-more (isSample at w past h) refl
-
-    within-on : Within w (samples at w (h ∷ past))
-    unfolding samples
-    within-on = one-within (isSample at w past h) refl
 
 module _ (p : Port) (at : ℕ) (params : Params) (past : List Happening) (s : StandsSince p at params past) (h : Happening) where
   watchdog-is : p .params .«FSP_WatchdogTime» ≡ params .«FSP_WatchdogTime»
   watchdog-is = ap (λ (q : Params). q .«FSP_WatchdogTime») (s .parameters)
 
-  histogram-is : stepOf p h .port .histogram ≡ cond (isSample at (params .«FSP_WatchdogTime») past h) (countedOf (p .histogram) (params .«FSP_WatchdogTime») (timeOf at (params .«FSP_WatchdogTime») past h)) (p .histogram)
-  unfolding stepOf stepped
-  histogram-is = ap₂ (stepped (p .histogram) h) (s .master) watchdog-is ∙ counts at (params .«FSP_WatchdogTime») past h (p .histogram)
+  histogram-is : stepOf p h .port .histogram ≡ histogramAfter at (params .«FSP_WatchdogTime») (h ∷ past)
+  unfolding stepOf histogramAfter
+  histogram-is =
+      ap (λ (k : Histogram). stepped k (p .master) (p .params .«FSP_WatchdogTime») h) (s .histogram)
+      ∙ ap₂ (λ (m : Master) (w : ℕ). stepped (histogramAfter at (params .«FSP_WatchdogTime») past) m w h) (s .master) watchdog-is
 
   step-stands : StandsSince (stepOf p h .port) at params (h ∷ past)
   unfolding stepOf masterAfter deviceAfter
@@ -88,10 +54,9 @@ module _ (p : Port) (at : ℕ) (params : Params) (past : List Happening) (s : St
     parameters = s .parameters;
     master = ap₂ (λ (m : Master) (w : ℕ). masters.stepOf m w h .master) (s .master) watchdog-is;
     device = ap₂ (λ (d : Device) (w : ℕ). devices.stepOf d w h .device) (s .device) watchdog-is;
-    counted =
-        rw histogram-is
-        (counted-on at (params .«FSP_WatchdogTime») past h (p .histogram) (s .small) (s .within) (s .counted));
-    within = within-on at (params .«FSP_WatchdogTime») past h (p .histogram) (s .small) (s .within) (s .counted);
+    histogram = histogram-is;
+    counted = rw histogram-is (samples-held at (params .«FSP_WatchdogTime») (h ∷ past) (s .small));
+    within = samples-within at (params .«FSP_WatchdogTime») (h ∷ past);
     small = s .small;
   }
 
@@ -108,12 +73,13 @@ unfolding rulesOf
 small-watchdog octets port p at k = let w = paramsOf octets .«FSP_WatchdogTime» in leb-true w 65535 (and-right (leb 1 w) (leb w 65535) (not-false (leb 1 w && leb w 65535) (k .each 14)))
 
 taken-stands : (p : Port) (s : Since) (c : Call) → Kept (rulesOf p c) → Stands p s → Stands (takenAt p c) (extended s c)
-unfolding takenAt extended rulesOf Stands acceptedPort masterAfter deviceAfter samples
+unfolding takenAt extended rulesOf Stands acceptedPort masterAfter deviceAfter samples histogramAfter
 taken-stands p s (SetParameters port at octets) k z = record {
   running = refl;
   parameters = refl;
   master = refl;
   device = refl;
+  histogram = refl;
   counted = cleared-holds (paramsOf octets .«FSP_WatchdogTime»);
   within = none;
   small = small-watchdog octets port p at k;

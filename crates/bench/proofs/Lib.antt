@@ -3,7 +3,6 @@ pub mod Index
 pub mod Answers
 pub mod AtPort
 pub mod Copied
-pub mod Samples
 pub mod History
 pub mod Release
 pub mod Never

@@ -42,8 +42,9 @@ use Rattle.bench.specs.declared.Port.{Port}
 use Rattle.bench.specs.Ports.{newPort, portAt}
 use Rattle.bench.specs.Calls.{placed, parametersAs}
 use Rattle.bench.specs.Ports.{silent}
-use Rattle.bench.specs.History.{Call, SetParameters, ReceiveResponse, ReceiveRequest, Clock, Operator, Looks, portOf, answerOf, history, Since, never, since, goesOn, extended, sinceBlock, Previous, previousBy, lastTaken, Stands, Arising, blockIn, OctetsIn, no-call, one-more}
-use Rattle.bench.proofs.Samples.{previous-is}
+use Rattle.bench.specs.History.{Call, SetParameters, ReceiveResponse, ReceiveRequest, Clock, Operator, Looks, portOf, answerOf, history, Since, never, since, goesOn, extended, sinceBlock, Stands, Arising, blockIn, OctetsIn, no-call, one-more}
+use Rattle.samples.specs.Samples.{Previous, previousBy, lastTaken}
+use Rattle.samples.proofs.Samples.{previous-is}
 use Rattle.bench.proofs.History.{stands}
 
 -- ---- what is read of an SPDU

@@ -18,9 +18,10 @@ use Rattle.histogram.specs.Samples.{limit, sumOf, lowestOf, highestOf}
 use Rattle.histogram.specs.Trends as trends
 use Rattle.histogram.proofs.Counting.{frozen-mark}
 use Rattle.histogram.proofs.Trends as trendProofs
+use Rattle.samples.specs.Samples.{samples}
 use Rattle.bench.specs.declared.Port.{Port}
 use Rattle.bench.specs.Shown.{seen, trendOf, binsOf}
-use Rattle.bench.specs.History.{samples, StandsSince}
+use Rattle.bench.specs.History.{StandsSince}
 
 trend-by : (h : Histogram) → refused Taken (eqb (h .total) 0) NoSamples ≡ trends.trendOf h .answer
 unfolding trends.trendOf

@@ -2,7 +2,7 @@
 -- In every list here the latest stands first. Assumes nothing.
 use Prim.Native.Nat.{ℕ, _+_, _≤_, _<_}
 use mathlib.Core.Path.{_≡_}
-use mathlib.Core.Bool.{Bool, true, false, cond, not, _&&_, _||_}
+use mathlib.Core.Bool.{Bool, true, false, cond, not, _&&_}
 use mathlib.Core.List.{List, [], _∷_, _++_}
 use lib.Dec.{eqb, leb}
 use lib.ListN.{length, getD, replicate}
@@ -22,18 +22,16 @@ use Rattle.spdu.specs.Signature.{byBits}
 use Rattle.spdu.specs.Fields.{responseBy, requestBy}
 use Rattle.spdu.specs.Built.{buffersHold}
 use Rattle.spdu.specs.Image as image
-use Rattle.scl.specs.Time.{elapsedOf}
-use Rattle.scl.specs.Happenings.{readingOf}
 use Rattle.scl.specs.declared.Happening.{Happening}
 use Rattle.scl.specs.declared.Happening.the-variants as happening
-use Rattle.fs_master.specs.declared.Master.{Master}
 use Rattle.fs_master.specs.Table38 as table38
 use Rattle.fs_master.specs.Calls as masters
-use Rattle.fs_master.specs.History.{Held, masterAfter, judgedIn, passesBy}
+use Rattle.fs_master.specs.History.{Held, masterAfter}
 use Rattle.fs_device.specs.Table40 as table40
 use Rattle.fs_device.specs.Calls as devices
 use Rattle.fs_device.specs.History as deviceSpecs
 use Rattle.histogram.specs.Samples.{binCount, Within, Holds, Fits}
+use Rattle.samples.specs.Samples.{samples, histogramAfter}
 use Rattle.bench.specs.declared.Port.{Port}
 use Rattle.bench.specs.declared.Bench.{Bench}
 use Rattle.bench.specs.Ports.{newPort, newBench, portAt}
@@ -161,75 +159,6 @@ sinceBlock q [] = never
 sinceBlock q (c ∷ past) =
     cond (eqb (portOf c) q && isTaken (answerOf (history past) c)) (extended (sinceBlock q past) c) (sinceBlock q past)
 
--- ---- Samples: "A sample is the first response that passes for each count sent, with elapsed t at most W, in any state."
-
--- "A repeated response isn't a second sample" (R14a)
-unfoldable pub oldBy : Master → Happening → Bool
-oldBy m (happening.Response at f) = table38.isOld m f
-oldBy m (happening.Request at q) = false
-oldBy m (happening.Clock at) = false
-oldBy m (happening.Operator at «setSD_C» «ChFAck_C») = false
-
--- what is kept while a count stays, and begins anew where it takes another value
-abbrev pub whileSame : {A : Type 0} → ℕ → ℕ → A → A → A
-whileSame before later kept anew = cond (eqb later before) kept anew
-
--- "the reading of the call in which the FS-Master first put that count, since its last change or block, in an outgoing SPDU": for the count that
--- stands after the calls. Two rows of one call are two changes (R17).
-unfoldable pub sentSince : ℕ → ℕ → List Happening → ℕ
-sentSince at w [] = at
-sentSince at w (h ∷ past) =
-    let before = masterAfter at w past .MCount in
-    let judged = judgedIn at w past h .MCount in
-    let later = masterAfter at w (h ∷ past) .MCount in
-    whileSame judged later (whileSame before judged (sentSince at w past) (readingOf h)) (readingOf h)
-
--- a response has passed for the count that stands after the calls
-unfoldable pub answered : ℕ → ℕ → List Happening → Bool
-answered at w [] = false
-answered at w (h ∷ past) =
-    let before = masterAfter at w past .MCount in
-    let judged = judgedIn at w past h .MCount in
-    let later = masterAfter at w (h ∷ past) .MCount in
-    whileSame judged later (passesBy (judgedIn at w past h) h || whileSame before judged (answered at w past) false) false
-
--- "t runs .. to the reading of the call that takes the response"
-unfoldable pub timeOf : ℕ → ℕ → List Happening → Happening → ℕ
-timeOf at w past h =
-    let before = masterAfter at w past .MCount in
-    let judged = judgedIn at w past h .MCount in
-    elapsedOf (readingOf h) (whileSame before judged (sentSince at w past) (readingOf h))
-
-unfoldable pub isSample : ℕ → ℕ → List Happening → Happening → Bool
-isSample at w past h =
-    let before = masterAfter at w past .MCount in
-    let judged = judgedIn at w past h .MCount in
-    let first = not (whileSame before judged (answered at w past) false) in
-    passesBy (judgedIn at w past h) h && first && not (oldBy (judgedIn at w past h) h) && leb (timeOf at w past h) w
-
--- the samples, here the first first
-unfoldable pub samples : ℕ → ℕ → List Happening → List ℕ
-samples at w [] = []
-samples at w (h ∷ past) = samples at w past ++ cond (isSample at w past h) (timeOf at w past h ∷ []) []
-
--- ---- The previous SPDU, "the last one taken to a check": whether there was one, the DCount_i it carried and the MCount that stood (R14)
-
-pub record Previous : Type 0 where
-  pub previous : Bool
-  pub carried : ℕ
-  pub stood : ℕ
-
-unfoldable pub previousBy : Master → Happening → Previous → Previous
-previousBy m (happening.Response at f) r = cond (table38.isTaken m f) (record { previous = true; carried = f .«DCount_i»; stood = m .MCount }) r
-previousBy m (happening.Request at q) r = r
-previousBy m (happening.Clock at) r = r
-previousBy m (happening.Operator at «setSD_C» «ChFAck_C») r = r
-
--- before any, the FS-Master keeps 0 for both counts and does not read them
-unfoldable pub lastTaken : ℕ → ℕ → List Happening → Previous
-lastTaken at w [] = record { previous = false; carried = 0; stood = 7 }
-lastTaken at w (h ∷ past) = previousBy (judgedIn at w past h) h (lastTaken at w past)
-
 -- ---- What a port holds
 
 pub record StandsSince (p : Port) (at : ℕ) (params : Params) (past : List Happening) : Type 0 where
@@ -237,6 +166,7 @@ pub record StandsSince (p : Port) (at : ℕ) (params : Params) (past : List Happ
   pub parameters : p .params ≡ params
   pub master : p .master ≡ masterAfter at (params .«FSP_WatchdogTime») past
   pub device : p .device ≡ deviceSpecs.deviceAfter at (params .«FSP_WatchdogTime») past
+  pub histogram : p .histogram ≡ histogramAfter at (params .«FSP_WatchdogTime») past
   -- bins, total, sum, lowest and highest are those of the samples, up to the freeze
   pub counted : Holds (params .«FSP_WatchdogTime») (samples at (params .«FSP_WatchdogTime») past) (p .histogram)
   pub within : Within (params .«FSP_WatchdogTime») (samples at (params .«FSP_WatchdogTime») past)

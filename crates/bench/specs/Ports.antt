@@ -1,8 +1,7 @@
 -- A port, a bench of eight, and one happening at a port. Assumes nothing.
 use Prim.Native.Nat.{ℕ, _-_}
-use mathlib.Core.Bool.{Bool, true, false, cond, not, _&&_}
+use mathlib.Core.Bool.{true, false, cond}
 use mathlib.Core.List.{[]}
-use lib.Dec.{leb}
 use lib.ListN.{getD, set, replicate}
 use Rattle.answer.specs.declared.Answer.{Answer}
 use Rattle.answer.specs.declared.Answer.the-variants.{Taken}
@@ -10,19 +9,14 @@ use Rattle.ranges.specs.Fields.{outside}
 use Rattle.block.specs.declared.Params.{Params}
 use Rattle.block.specs.Rules.{noParams}
 use Rattle.scl.specs.declared.Mark.the-variants.{Nothing}
-use Rattle.scl.specs.Time.{elapsedOf}
-use Rattle.scl.specs.Happenings.{readingOf}
 use Rattle.scl.specs.declared.Happening.{Happening}
-use Rattle.fs_master.specs.declared.Master.{Master}
 use Rattle.fs_master.specs.Table38.{firstMaster}
-use Rattle.fs_master.specs.Calls as masters
 use Rattle.fs_device.specs.Table40.{firstDevice}
 use Rattle.fs_device.specs.Calls as devices
-use Rattle.histogram.specs.declared.Histogram.{Histogram}
-use Rattle.histogram.specs.Counted.{clearedOf, countedOf}
+use Rattle.histogram.specs.Counted.{clearedOf}
+use Rattle.samples.specs.Tallied.{movedOf, stepped}
 use Rattle.bench.specs.declared.Port.{Port}
 use Rattle.bench.specs.declared.Bench.{Bench}
-use Rattle.bench.specs.declared.Moved.{Moved}
 use Rattle.bench.specs.declared.Reply.{Reply}
 use Rattle.bench.specs.declared.PortAfter.{PortAfter}
 
@@ -101,22 +95,6 @@ portAt b port = cond (outside 1 8 port) newPort (getD (b .ports) (port - 1) noPo
 unfoldable pub withPort : Bench → ℕ → Port → Bench
 withPort b port p = cond (outside 1 8 port) b (record { ports = set (b .ports) (port - 1) p })
 
--- A happening at the FS-Master. `passes_anew`: a response has come that passes and is not old (R14a), t ms after the count that it answers was
--- first sent, which is the sample's start once the watchdog has been judged (R17).
-abbrev pub movedOf : Master → ℕ → Happening → Moved
-movedOf m w h =
-    let o = masters.stepOf m w h in
-    record {
-      master = o .master;
-      mark = o .mark;
-      «passes_anew» = o .passed && not (o .old);
-      t = elapsedOf (readingOf h) (masters.judged m w (readingOf h) .sample);
-    }
-
--- "A sample is the first response that passes for each count sent, with elapsed t at most W"
-unfoldable pub tallied : Histogram → ℕ → Bool → ℕ → Histogram
-tallied h w anew t = cond (anew && leb t w) (countedOf h w t) h
-
 -- Every happening judges the watchdog of both ends, then what arrived goes to the end it is for (R11).
 unfoldable pub stepOf : Port → Happening → PortAfter
 stepOf p h =
@@ -129,7 +107,7 @@ stepOf p h =
         params = p .params;
         master = m .master;
         device = d .device;
-        histogram = tallied (p .histogram) w (m .«passes_anew») (m .t);
+        histogram = stepped (p .histogram) (p .master) w h;
       };
       reply = record {
         answer = Taken;

@@ -1,14 +1,11 @@
 // One port: what a call does to it, with its answer.
 ghost use mathlib.Core.Path.{_≡_};
-ghost use mathlib.Core.Bool.{cond, _||_};
 ghost use lib.Dec.{eqb};
 ghost use Rattle.answer.specs.declared.Answer.the-variants as answers;
 ghost use Rattle.answer.specs.Rules.{answerBy};
-ghost use Rattle.fs_master.specs.Table38.{rowNumberOf};
 ghost use Rattle.bench.specs.Ports as ports;
 ghost use Rattle.bench.specs.Calls as calls;
 use crate::Bench;
-use crate::Moved;
 use crate::Port;
 use crate::PortAfter;
 use crate::Reply;
@@ -16,9 +13,8 @@ use answer::Answer;
 use answer::refuse;
 use block::Judged;
 use block::Params;
-use fs_master::Master;
-use fs_master::Row;
-use histogram::Histogram;
+use samples::move_master;
+use samples::tallied;
 use scl::Happening;
 use scl::Mark;
 use scl::Request;
@@ -55,42 +51,6 @@ fn accepted(p: Port, params: Params, at: u32) -> Port
     n.device = fs_device::first(at);
     n.histogram = histogram::cleared();
     n
-}
-
-// The sample's start once the watchdog has been judged, by its row: what is kept, or this reading where T8 or T14 made MCount 0 and it was not.
-fn sent_at(m: Master, watchdog: Row, at: u32) -> u32
-    ensures { λ r. ⌜ r ≡ cond (eqb (rowNumberOf watchdog) 0 || eqb (m .MCount) 0) (m .sample) at ⌝ }
-{
-    let none = fs_master::row_number(watchdog) == 0;
-    if none | (m.MCount == 0) { m.sample } else { at }
-}
-
-fn tallied(h: Histogram, w: u16, passes_anew: bool, t: u32) -> Histogram
-    ensures { λ r. ⌜ r ≡ ports.tallied h w «passes_anew» t ⌝ }
-{
-    if passes_anew {
-        if t <= w as u32 {
-            return histogram::counted(h, w, t as u16);
-        }
-    }
-    h
-}
-
-// A happening at the FS-Master of a port whose watchdog time is w.
-pub fn move_master(m: Master, w: u16, happening: Happening) -> Moved
-    ensures { λ r. ⌜ r ≡ ports.movedOf m w happening ⌝ }
-{
-    let after = fs_master::step(m, w, happening);
-    let at = scl::reading(happening);
-    let watchdog = after.watchdog;
-    let master = after.master;
-    let mark = after.mark;
-    Moved {
-        master,
-        mark,
-        passes_anew: after.passed & !after.old,
-        t: scl::elapsed(at, sent_at(m, watchdog, at)),
-    }
 }
 
 // One happening at a port.

@@ -6,7 +6,6 @@ mod images;
 mod shown;
 
 use answer::Answer;
-pub use at_port::move_master;
 pub use at_port::new_bench;
 use block::Params;
 pub use calls::clock;
@@ -44,15 +43,6 @@ pub struct Port {
 #[repr(C)]
 pub struct Bench {
     pub ports: [Port; 8],
-}
-
-// What a happening does at an FS-Master. `passes_anew`: a response has come that passes and is not old, t ms after the count that it answers was
-// first sent.
-pub struct Moved {
-    pub master: Master,
-    pub mark: Mark,
-    pub passes_anew: bool,
-    pub t: u32,
 }
 
 // What a call says: its answer, and for each end what is handed on and whether the end releases after the call. In a refusal nothing is

@@ -18,8 +18,9 @@ use Rattle.histogram.specs.declared.Histogram.{Histogram}
 use Rattle.histogram.specs.declared.Totals.{Totals}
 use Rattle.histogram.specs.Counted.{clearedOf, totalsOf, withBins}
 use Rattle.bench.specs.declared.Port.{Port}
-use Rattle.bench.specs.declared.Moved.{Moved}
-use Rattle.bench.specs.Ports.{noPort, acceptedPort, movedOf, tallied, stepOf}
+use Rattle.samples.specs.declared.Moved.{Moved}
+use Rattle.samples.specs.Tallied.{movedOf, tallied}
+use Rattle.bench.specs.Ports.{noPort, acceptedPort, stepOf}
 use Rattle.session.specs.declared.Act.{Act}
 use Rattle.session.specs.declared.Act.the-variants.{Refused, Accepted, Happens}
 use Rattle.session.specs.Columns.{portsOf}

@@ -4,8 +4,8 @@ ghost use mathlib.Core.Path.{_≡_};
 ghost use Prim.Native.Nat.{_<_};
 ghost use mathlib.Core.List.{[]};
 ghost use lib.ListN.{getD, set};
-ghost use Rattle.bench.specs.Ports as ports;
 ghost use Rattle.histogram.specs.Counted.{totalsOf, withBins};
+ghost use Rattle.samples.specs.Tallied.{tallied};
 ghost use Rattle.session.specs.Columns as columns;
 use bench::Bench;
 use bench::Port;
@@ -70,8 +70,8 @@ pub(crate) fn tally(
     t: u32,
 ) -> Totals
     requires { ⌜ k < 8 ⌝ }
-    ensures { λ r. ⌜ r ≡ totalsOf (ports.tallied (withBins totals (getD (now (bins .entry)) k [])) w «passes_anew» t) ⌝ }
-    ensures { λ _. ⌜ now (bins .exit) ≡ set (now (bins .entry)) k (ports.tallied (withBins totals (getD (now (bins .entry)) k [])) w «passes_anew» t .bins) ⌝ }
+    ensures { λ r. ⌜ r ≡ totalsOf (tallied (withBins totals (getD (now (bins .entry)) k [])) w «passes_anew» t) ⌝ }
+    ensures { λ _. ⌜ now (bins .exit) ≡ set (now (bins .entry)) k (tallied (withBins totals (getD (now (bins .entry)) k [])) w «passes_anew» t .bins) ⌝ }
 {
     if passes_anew {
         if t <= w as u32 {

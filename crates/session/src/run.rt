@@ -174,7 +174,7 @@ fn take_records(
                     Act::Happens(happening) => {
                         let w = q.FSP_WatchdogTime;
                         let m = masters[k];
-                        let moved = bench::move_master(m, w, happening);
+                        let moved = samples::move_master(m, w, happening);
                         let master = moved.master;
                         masters[k] = master;
                         let d = devices[k];

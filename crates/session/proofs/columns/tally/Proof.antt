@@ -15,7 +15,7 @@ use Rattle.histogram.specs.declared.Histogram.{Histogram}
 use Rattle.histogram.specs.Samples.{binOf, limit}
 use Rattle.histogram.specs.Counted.{frozenOf, withSample, totalsOf, withBins, countedOf}
 use Rattle.histogram.proofs.Samples.{bin-below}
-use Rattle.bench.specs.Ports.{tallied}
+use Rattle.samples.specs.Tallied.{tallied}
 use Rattle.session.proofs.columns.tally.Statement.{statement}
 use Rattle.session.proofs.columns.tally.Tie as tie
 

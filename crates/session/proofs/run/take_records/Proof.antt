@@ -18,8 +18,9 @@ use Rattle.block.specs.Rules.{noParams}
 use Rattle.fs_master.specs.Table38.{firstMaster}
 use Rattle.fs_device.specs.Table40.{firstDevice}
 use Rattle.bench.specs.declared.Port.{Port}
-use Rattle.bench.specs.declared.Moved.{Moved}
-use Rattle.bench.specs.Ports.{noPort, tallied}
+use Rattle.samples.specs.declared.Moved.{Moved}
+use Rattle.samples.specs.Tallied.{tallied}
+use Rattle.bench.specs.Ports.{noPort}
 use Rattle.spdu.proofs.Tables.{right-method}
 use Rattle.record.specs.Format.{nothing, part, bad, form}
 use Rattle.session.specs.Columns.{packed, stateOf}

@@ -1,9 +1,9 @@
--- `bench::at_port::move_master` meets its contract. Assumes nothing.
+-- `samples::move_master` meets its contract. Assumes nothing.
 use borrow.Author.Needs.{needs}
 use Rattle.fs_master.proofs.Samples.{step-watchdog}
-use Rattle.bench.proofs.Samples.{sent-judged}
-use Rattle.bench.proofs.at_port.move_master.Statement.{statement}
-use Rattle.bench.proofs.at_port.move_master.Tie as tie
+use Rattle.samples.proofs.Samples.{sent-judged}
+use Rattle.samples.proofs.move_master.Statement.{statement}
+use Rattle.samples.proofs.move_master.Tie as tie
 
 returns : tie.Need-returns
 returns c = simp (c .elapsed .ensures, c .before .sent-at .ensures, c .before .before .before .before .before .reading .ensures, c .before .before .before .before .before .before .step .ensures, step-watchdog, sent-judged)

@@ -1,6 +1,6 @@
 use borrow.Author.Needs.{needs}
-use Rattle.bench.proofs.at_port.sent_at.Statement.{statement}
-use Rattle.bench.proofs.at_port.sent_at.Tie as tie
+use Rattle.samples.proofs.sent_at.Statement.{statement}
+use Rattle.samples.proofs.sent_at.Tie as tie
 
 returns : tie.Need-returns
 returns c = simp (simp (c .before .before .row-number .ensures) at (c .if1 .taken), c .before .before .row-number .ensures)

@@ -20,7 +20,7 @@ use Rattle.fs_master.specs.History.{sound, masterAfter, judgedIn, passesBy}
 use Rattle.fs_master.proofs.Rows.{timeout-case}
 use Rattle.fs_master.proofs.Counts.{another-count}
 use Rattle.fs_master.proofs.Samples.{judged-start, step-start, step-passed, passes-as, step-old, Kept, judged-kept, response-kept}
-use Rattle.bench.specs.History.{oldBy, whileSame, sentSince, answered, timeOf, isSample, Previous, previousBy, lastTaken}
+use Rattle.samples.specs.Samples.{oldBy, whileSame, sentSince, answered, timeOf, isSample, Previous, previousBy, lastTaken}
 
 -- ---- the start that the code takes, by the watchdog's row
 eqb-flip : (a b : ℕ) → eqb a b ≡ eqb b a

@@ -1,8 +1,8 @@
 use borrow.Author.Tests.{le-leb, lt-leb}
-use Rattle.bench.specs.Ports.{tallied}
+use Rattle.samples.specs.Tallied.{tallied}
 use borrow.Author.Needs.{needs}
-use Rattle.bench.proofs.at_port.tallied.Statement.{statement}
-use Rattle.bench.proofs.at_port.tallied.Tie as tie
+use Rattle.samples.proofs.tallied.Statement.{statement}
+use Rattle.samples.proofs.tallied.Tie as tie
 
 returns : tie.Need-returns
 unfolding tallied

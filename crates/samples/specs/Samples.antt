@@ -1,0 +1,90 @@
+-- 01, "The histogram and the trend": which responses since an accepted block are samples, and of what time. The block has this reading and this W; in
+-- every list of happenings the latest stands first. Assumes nothing.
+use Prim.Native.Nat.{ℕ}
+use mathlib.Core.Bool.{Bool, true, false, cond, not, _&&_, _||_}
+use mathlib.Core.List.{List, [], _∷_, _++_}
+use lib.Dec.{eqb, leb}
+use Rattle.scl.specs.Time.{elapsedOf}
+use Rattle.scl.specs.Happenings.{readingOf}
+use Rattle.scl.specs.declared.Happening.{Happening}
+use Rattle.scl.specs.declared.Happening.the-variants as happening
+use Rattle.fs_master.specs.declared.Master.{Master}
+use Rattle.fs_master.specs.Table38 as table38
+use Rattle.fs_master.specs.History.{masterAfter, judgedIn, passesBy}
+use Rattle.histogram.specs.declared.Histogram.{Histogram}
+use Rattle.histogram.specs.Counted.{clearedOf}
+use Rattle.samples.specs.Tallied.{stepped}
+
+-- ---- Samples: "A sample is the first response that passes for each count sent, with elapsed t at most W, in any state."
+
+-- "A repeated response isn't a second sample" (R14a)
+unfoldable pub oldBy : Master → Happening → Bool
+oldBy m (happening.Response at f) = table38.isOld m f
+oldBy m (happening.Request at q) = false
+oldBy m (happening.Clock at) = false
+oldBy m (happening.Operator at «setSD_C» «ChFAck_C») = false
+
+-- what is kept while a count stays, and begins anew where it takes another value
+abbrev pub whileSame : {A : Type 0} → ℕ → ℕ → A → A → A
+whileSame before later kept anew = cond (eqb later before) kept anew
+
+-- "the reading of the call in which the FS-Master first put that count, since its last change or block, in an outgoing SPDU": for the count that
+-- stands after the calls. Two rows of one call are two changes (R17).
+unfoldable pub sentSince : ℕ → ℕ → List Happening → ℕ
+sentSince at w [] = at
+sentSince at w (h ∷ past) =
+    let before = masterAfter at w past .MCount in
+    let judged = judgedIn at w past h .MCount in
+    let later = masterAfter at w (h ∷ past) .MCount in
+    whileSame judged later (whileSame before judged (sentSince at w past) (readingOf h)) (readingOf h)
+
+-- a response has passed for the count that stands after the calls
+unfoldable pub answered : ℕ → ℕ → List Happening → Bool
+answered at w [] = false
+answered at w (h ∷ past) =
+    let before = masterAfter at w past .MCount in
+    let judged = judgedIn at w past h .MCount in
+    let later = masterAfter at w (h ∷ past) .MCount in
+    whileSame judged later (passesBy (judgedIn at w past h) h || whileSame before judged (answered at w past) false) false
+
+-- "t runs .. to the reading of the call that takes the response"
+unfoldable pub timeOf : ℕ → ℕ → List Happening → Happening → ℕ
+timeOf at w past h =
+    let before = masterAfter at w past .MCount in
+    let judged = judgedIn at w past h .MCount in
+    elapsedOf (readingOf h) (whileSame before judged (sentSince at w past) (readingOf h))
+
+unfoldable pub isSample : ℕ → ℕ → List Happening → Happening → Bool
+isSample at w past h =
+    let before = masterAfter at w past .MCount in
+    let judged = judgedIn at w past h .MCount in
+    let first = not (whileSame before judged (answered at w past) false) in
+    passesBy (judgedIn at w past h) h && first && not (oldBy (judgedIn at w past h) h) && leb (timeOf at w past h) w
+
+-- the samples, here the first first
+unfoldable pub samples : ℕ → ℕ → List Happening → List ℕ
+samples at w [] = []
+samples at w (h ∷ past) = samples at w past ++ cond (isSample at w past h) (timeOf at w past h ∷ []) []
+
+-- the histogram after what happened since the block, which cleared it
+unfoldable pub histogramAfter : ℕ → ℕ → List Happening → Histogram
+histogramAfter at w [] = clearedOf
+histogramAfter at w (h ∷ past) = stepped (histogramAfter at w past) (masterAfter at w past) w h
+
+-- ---- The previous SPDU, "the last one taken to a check": whether there was one, the DCount_i it carried and the MCount that stood (R14)
+
+pub record Previous : Type 0 where
+  pub previous : Bool
+  pub carried : ℕ
+  pub stood : ℕ
+
+unfoldable pub previousBy : Master → Happening → Previous → Previous
+previousBy m (happening.Response at f) r = cond (table38.isTaken m f) (record { previous = true; carried = f .«DCount_i»; stood = m .MCount }) r
+previousBy m (happening.Request at q) r = r
+previousBy m (happening.Clock at) r = r
+previousBy m (happening.Operator at «setSD_C» «ChFAck_C») r = r
+
+-- before any, the FS-Master keeps 0 for both counts and does not read them
+unfoldable pub lastTaken : ℕ → ℕ → List Happening → Previous
+lastTaken at w [] = record { previous = false; carried = 0; stood = 7 }
+lastTaken at w (h ∷ past) = previousBy (judgedIn at w past h) h (lastTaken at w past)

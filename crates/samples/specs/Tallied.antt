@@ -1,0 +1,32 @@
+-- One happening at a port's FS-Master and its histogram: the method. What it comes to is in Samples.antt. Assumes nothing.
+use Prim.Native.Nat.{ℕ}
+use mathlib.Core.Bool.{Bool, cond, not, _&&_}
+use lib.Dec.{leb}
+use Rattle.scl.specs.Time.{elapsedOf}
+use Rattle.scl.specs.Happenings.{readingOf}
+use Rattle.scl.specs.declared.Happening.{Happening}
+use Rattle.fs_master.specs.declared.Master.{Master}
+use Rattle.fs_master.specs.Calls as masters
+use Rattle.histogram.specs.declared.Histogram.{Histogram}
+use Rattle.histogram.specs.Counted.{countedOf}
+use Rattle.samples.specs.declared.Moved.{Moved}
+
+-- A happening at the FS-Master. `passes_anew`: a response has come that passes and is not old (R14a), t ms after the count that it answers was
+-- first sent, which is the sample's start once the watchdog has been judged (R17).
+abbrev pub movedOf : Master → ℕ → Happening → Moved
+movedOf m w h =
+    let o = masters.stepOf m w h in
+    record {
+      master = o .master;
+      mark = o .mark;
+      «passes_anew» = o .passed && not (o .old);
+      t = elapsedOf (readingOf h) (masters.judged m w (readingOf h) .sample);
+    }
+
+-- "A sample is the first response that passes for each count sent, with elapsed t at most W"
+unfoldable pub tallied : Histogram → ℕ → Bool → ℕ → Histogram
+tallied h w anew t = cond (anew && leb t w) (countedOf h w t) h
+
+-- the histogram of a port after a happening, its FS-Master before it being m
+abbrev pub stepped : Histogram → Master → ℕ → Happening → Histogram
+stepped k m w h = let moved = movedOf m w h in tallied k w (moved .«passes_anew») (moved .t)
