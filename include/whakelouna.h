@@ -1,10 +1,33 @@
-// The C boundary of libexport.a. Each function takes every input; what it promises stands in crates/export/src.
+// The C boundary of libexport.a. Each function takes every input, as long as a pointer has the octets that its length says; what it promises stands in
+// crates/export/src. Where an output buffer has a wrong length nothing is written.
 #ifndef WHAKELOUNA_H
 #define WHAKELOUNA_H
 
 #include <stdbool.h>
 #include <stddef.h>
 #include <stdint.h>
+
+#ifdef __cplusplus
+extern "C" {
+#endif
+
+// Document 01's answers: a `number` below is one of these. An `offset` is that of the block's field, with 5 and 6 alone; else 0.
+enum whakelouna_answer {
+    WHAKELOUNA_TAKEN,
+    WHAKELOUNA_BLOCK_SIZE,
+    WHAKELOUNA_BLOCK_ID,
+    WHAKELOUNA_PORT_MODE,
+    WHAKELOUNA_NO_SCL,
+    WHAKELOUNA_FIELD_RANGE,
+    WHAKELOUNA_SIGNATURE,
+    WHAKELOUNA_BUFFER,
+    WHAKELOUNA_NO_PORT,
+    WHAKELOUNA_NOT_RUNNING,
+    WHAKELOUNA_SPDU_LENGTH,
+    WHAKELOUNA_NO_SAMPLES,
+    WHAKELOUNA_PORT_MISMATCH,
+    WHAKELOUNA_RECORD
+};
 
 // The signatures of 000 Annex D. `_by` takes a table that the caller holds; `whakelouna_table16` and `_table32` write the right one.
 void whakelouna_table16(uint16_t table[256]);
@@ -37,7 +60,9 @@ struct whakelouna_trend {
     struct whakelouna_trend_point point;
 };
 
+// time * 32 / (watchdog + 1), rounded down: 0 to 31 where time is at most watchdog, and may be above 31 where it is not.
 size_t whakelouna_bin(uint16_t watchdog, uint32_t time);
+
 bool whakelouna_frozen(struct whakelouna_histogram histogram);
 struct whakelouna_histogram whakelouna_cleared(void);
 struct whakelouna_histogram whakelouna_counted(struct whakelouna_histogram histogram, uint16_t watchdog, uint16_t sample);
@@ -182,7 +207,8 @@ struct whakelouna_bench {
 
 // The number and the offset of 01's answer; for each end what is handed on and whether it releases after the call. Handed on are: 0 the process
 // octets of the SPDU that came, all but its last 4 with FSP_ProtMode 1, all but its last 6 with 2; 1 nothing, as release goes on; 2 the safe
-// values lent; 3 nothing. `whakelouna_handed_on` copies them. In a refusal and in a parameter block: 3, and not released.
+// values lent; 3 nothing. `whakelouna_handed_on` copies them. In a refusal and in a parameter block: 3, and not released. An end for which the call lends no safe
+// values has 2 too where it does not release: then the caller has its zeros.
 struct whakelouna_reply {
     uint8_t number, offset, master, device;
     bool master_releases, device_releases;
@@ -242,19 +268,21 @@ struct whakelouna_bench_told whakelouna_operator(struct whakelouna_bench bench, 
     const uint8_t *safe, size_t safe_length);
 
 // The FS-Master's outgoing image (its SPDU, then the other data) and the FS-Device's outgoing SPDU. Each fills its last buffer, which overlaps
-// with nothing else that is passed, and returns 0; in a refusal it writes nothing and returns the answer's number.
+// with nothing else that is passed, and returns 0; in a refusal it writes nothing and returns the answer's number. An image has SPDUOutLength +
+// OutputDataLength octets, of which OutputDataLength are other data, the FS-Device's SPDU has SPDUInLength; process octets are as many as the SPDU has, less 4
+// with FSP_ProtMode 1 and less 6 with 2.
 uint8_t whakelouna_compose(struct whakelouna_bench bench, uint8_t port, const uint8_t *process, size_t process_length,
     const uint8_t *other, size_t other_length, uint8_t *octets, size_t length);
 uint8_t whakelouna_build_response(struct whakelouna_bench bench, uint8_t port, const uint8_t *process, size_t process_length,
     uint8_t *out, size_t out_length);
 
-// The FS-Master's incoming image.
+// The FS-Master's incoming image, of SPDUInLength + InputDataLength octets.
 struct whakelouna_split_told whakelouna_split(struct whakelouna_bench bench, uint8_t port, const uint8_t *octets, size_t length);
 
 // What a call handed on, by a mark of its reply, `master` with what was lent for the FS-Master and `device` with what was lent for the FS-Device: copied
 // to the front of `out`, which overlaps with nothing else that is passed. Of mark 0 the process octets of `spdu`, of 2 all of `safe`, of any other
 // nothing; `spdu` is looked at with mark 0 alone. Where `out` has fewer octets than that it writes nothing and answers 7. 25 octets have room for any
-// SPDU's process octets.
+// SPDU's process octets. It believes the mark: that a reply had it is not looked at.
 struct whakelouna_handed_told whakelouna_handed_on(struct whakelouna_bench bench, uint8_t port, uint8_t mark,
     const uint8_t *spdu, size_t spdu_length, const uint8_t *safe, size_t safe_length, uint8_t *out, size_t out_length);
 
@@ -282,12 +310,17 @@ struct whakelouna_fed_told {
 struct whakelouna_state whakelouna_session_start(void);
 
 // Takes the whole records of a block and writes the lines of those refused to the front of `out`, which overlaps with nothing else that is
-// passed; at most a record for every 64 octets of it. The next block begins with the octets that are not used up.
+// passed; at most a record for every 64 octets of it, so that with fewer than 64 none is taken. The next block begins with the octets that are not used up; as
+// a record has at most 264, a buffer of that many for the blocks is enough.
 struct whakelouna_fed_told whakelouna_session_feed(struct whakelouna_state state, const uint8_t *octets, size_t length,
     uint8_t *out, size_t out_length);
 
 // The end, where octets are left that are no whole record (`some`) or none are: writes what is printed there to the front of `out` and returns
 // how many octets that is; where `out` has fewer than 1152 octets it writes nothing and returns 0.
 size_t whakelouna_session_finish(struct whakelouna_state state, bool some, uint8_t *out, size_t out_length);
+
+#ifdef __cplusplus
+}
+#endif
 
 #endif

@@ -1,7 +1,7 @@
 // Lines of text into a session. One line is one record, or raw octets; a line that begins with a blank goes on with the line above it;
 // `#` begins a comment.
 //
-//     block port P WHEN [mode 1|2] [watchdog MS] [in N] [out N] [ELEMENT NUMBER].. [wrong SIGNATURE].. [size N]
+//     block port P WHEN [mode N] [watchdog MS] [in N] [out N] [ELEMENT NUMBER].. [wrong SIGNATURE].. [size N]
 //     block port P WHEN octets HEX
 //     response port P WHEN [process HEX] [DCount_i N] [FSP_Port N] [SDset] [DCommErr] [DTimeout] [CHANGE]..
 //     response port P WHEN repeated|zeros|octets HEX [CHANGE]..
@@ -13,7 +13,7 @@
 //     octets HEX..
 //
 // WHEN is `at MS`, or `after MS ms`: after the port's last record, or after 0. A CHANGE is `damaged bit N`, counted from 0 in the order
-// of division, or `length N`. `in` and `out` are process octets; ELEMENT is a name of 000 Table 22. A `response` is what the port's
+// of division, or `length N`. `mode` is FSP_ProtMode, `in` and `out` are process octets; ELEMENT is a name of 000 Table 22. A `response` is what the port's
 // FS-Device answers at that reading to the SPDU that the FS-Master sent last; where DCount_i, FSP_Port, SDset, DCommErr or DTimeout
 // change it, it is signed anew. An `spdu` is put together from its parts as they stand.
 
@@ -199,14 +199,14 @@ impl Maker {
         if let Some(octets) = &wish.octets {
             return Ok(octets.clone());
         }
-        if wish.repeated {
-            return Ok(self.ends.last_spdu(port).to_vec());
-        }
         let format = self
             .ends
             .bench()
             .format(port, Direction::Response)
             .ok_or_else(|| format!("port {port} does not run, so that nobody answers"))?;
+        if wish.repeated {
+            return Ok(self.ends.last_spdu(port).to_vec());
+        }
         if wish.zeros {
             return Ok(vec![0; format.length.into()]);
         }

@@ -39,7 +39,7 @@ impl<'a> Words<'a> {
         let number = number(self.need(what)?)?;
         match number >> 8 * octets {
             0 => Ok(number as u32),
-            _ => Err(format!("{what} {number} does not fit in {octets} octets")),
+            _ => Err(format!("{what} {number} is above {}", (1u64 << 8 * octets) - 1)),
         }
     }
 

@@ -114,7 +114,7 @@ answerOf b (Clock port at safeIn safeOut) = calls.clock b port at safeIn safeOut
 answerOf b (Operator port at «setSD_C» «ChFAck_C» safe) = calls.operator b port at «setSD_C» «ChFAck_C» safe .reply .answer
 answerOf b (Looks port look) = lookAnswer port (portAt b port) look
 
--- the bench after the call; calls without a reading return none, so it stays (R25)
+-- the bench after the call; calls without a reading return none, so it stays (R11)
 unfoldable pub after : Bench → Call → Bench
 after b (SetParameters port at octets) = calls.setParameters b port at octets .bench
 after b (ReceiveResponse port at spdu safe) = calls.receiveResponse b port at spdu safe .bench
