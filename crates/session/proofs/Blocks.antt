@@ -173,3 +173,18 @@ dropped {s} {r} (next f d) =
 pub rest-unused : (st : State) (s : List ℕ) (room : ℕ) → drop (fedOf st s room .used) s ≡ restOf (room / lineRoom) s
 unfolding fedOf
 rest-unused st s room = dropped (reads-of (room / lineRoom) s)
+
+used-by : (n : ℕ) (s : List ℕ) (f : Form) → form s ≡ f → 0 < n → form (restOf n s) ≡ whole → length (restOf n s) < length s
+used-by n s nothing e h g = let z : _≡_ {A = ℕ} 0 1 = cc (no-rest n s (rw e)) in omega arith
+used-by n s part e h g = let z : _≡_ {A = ℕ} 0 1 = cc (no-rest n s (rw e)) in omega arith
+used-by n s bad e h g = let z : _≡_ {A = ℕ} 0 1 = cc (no-rest n s (rw e)) in omega arith
+used-by n s whole e h g =
+    let x = drop (sizeOf s) s in
+    omega (arith, ap length (first-rest n s e h), shorter (reads-of (n - 1) x), length-drop (sizeOf s) s, whole-fits s e)
+
+-- a call that was out of room, and had room for a line, has used up a record
+pub full-used : (st : State) (s : List ℕ) (room : ℕ) → lineRoom ≤ room → form (restOf (room / lineRoom) s) ≡ whole → 0 < fedOf st s room .used
+unfolding fedOf
+full-used st s room h g =
+    let some : 0 < room / lineRoom = omega arith in
+    omega (arith, used-by (room / lineRoom) s (form s) refl some g)
