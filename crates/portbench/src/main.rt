@@ -1,10 +1,10 @@
 // Reads a session from standard input, in blocks, and prints what it comes to (document 01, "The session program"). What is right is in the
-// contracts of `session`; here it is proved that no step goes wrong, that the program ends, what `move_front` leaves in the buffer, and what `finish`
-// makes of the number of octets that are left.
+// contracts of `session`; here it is proved that no step goes wrong, that the program ends, what each block comes to and what is kept of it, and
+// what `finish` makes of the last.
 ghost use mathlib.Core.Path.{_≡_};
-ghost use Prim.Native.Nat.{_-_, _≤_};
+ghost use Prim.Native.Nat.{_+_, _-_, _≤_};
 ghost use lib.Dec.{ltb};
-ghost use lib.ListN.{length};
+ghost use lib.ListN.{length, take, drop};
 ghost use Rattle.portbench.specs.Kept as kept;
 ghost use Rattle.session.specs.Run as runs;
 use libc::STDERR_FILENO;
@@ -30,7 +30,7 @@ struct Block {
 }
 
 fn after(state: State, left: usize, going: Going) -> Block
-    ensures { λ r. ⌜ r .left ≡ left ⌝ }
+    ensures { λ r. ⌜ r ≡ record { state = state; left = left; going = going } ⌝ }
 {
     Block { state, left, going }
 }
@@ -47,91 +47,112 @@ fn move_front(buf: &mut [u8], from: usize, to: usize)
     }
 }
 
+fn keep(state: State, buf: &mut [u8], from: usize, to: usize, going: Going) -> Block
+    requires { ⌜ from ≤ to ⌝ }
+    requires { ⌜ to ≤ length (now buf) ⌝ }
+    ensures { λ r. ⌜ r ≡ record { state = state; left = to - from; going = going } ⌝ }
+    ensures { λ _. ⌜ now (buf .exit) ≡ kept.toFront from (to - from) (now (buf .entry)) ⌝ }
+{
+    move_front(buf, from, to);
+    after(state, to - from, going)
+}
+
 // Takes the whole records of buf's octets before `to`, and moves what is left to the front. A call of `feed` that is out of room has taken a
-// record at least, so that there are no more turns than octets.
+// record at least, since there is room for a line.
 fn take_records(st: State, buf: &mut [u8], to: usize, out: &mut [u8]) -> Block
     requires { ⌜ to ≤ length (now buf) ⌝ }
+    requires { ⌜ runs.lineRoom ≤ length (now out) ⌝ }
+    ensures { λ r. ⌜ kept.Taken st (take to (now (buf .entry))) r (now (buf .exit)) ⌝ }
 {
     let mut state = st;
     let mut from: usize = 0;
-    let mut turns = to;
-    while turns > 0 {
-        turns -= 1;
+    loop {
         let fed = session::feed(state, &buf[from..to], out);
         let used = fed.used;
         let written = fed.written;
         let stop = fed.stop;
         state = fed.state;
+        from += used;
         if !io::write_all(STDOUT_FILENO, &out[..written]) {
             return after(st, 0, Going::Stopped);
         }
-        from += used;
         match stop {
             Stop::Full => {}
             Stop::Bad => {
-                return after(state, to - from, Going::Over);
+                return keep(state, buf, from, to, Going::Over);
             }
             Stop::Cut => {
-                move_front(buf, from, to);
-                return after(state, to - from, Going::On);
+                return keep(state, buf, from, to, Going::On);
             }
             Stop::End => {
-                return after(state, 0, Going::On);
+                return keep(state, buf, from, to, Going::On);
             }
         }
     }
-    after(st, 0, Going::Stopped)
+}
+
+// n octets more stand behind those that are left from the last block; none are the end of the input.
+fn take_read(last: Block, buf: &mut [u8], n: usize, out: &mut [u8]) -> Block
+    requires { ⌜ last .left + n ≤ length (now buf) ⌝ }
+    requires { ⌜ runs.lineRoom ≤ length (now out) ⌝ }
+    ensures { λ r. ⌜ kept.Brought last (take (last .left) (now (buf .entry))) (take n (drop (last .left) (now (buf .entry)))) r (now (buf .exit)) ⌝ }
+{
+    let state = last.state;
+    let have = last.left;
+    if n == 0 {
+        return after(state, have, Going::Over);
+    }
+    take_records(state, buf, have + n, out)
 }
 
 // One read, behind the octets that are left from the last.
-fn read_block(st: State, buf: &mut [u8], have: usize, out: &mut [u8]) -> Block
-    requires { ⌜ have ≤ length (now buf) ⌝ }
+fn read_block(last: Block, buf: &mut [u8], out: &mut [u8]) -> Block
+    requires { ⌜ last .left ≤ length (now buf) ⌝ }
+    requires { ⌜ runs.lineRoom ≤ length (now out) ⌝ }
+    ensures { λ r. ⌜ kept.Read last (take (last .left) (now (buf .entry))) r (now (buf .exit)) ⌝ }
 {
+    let state = last.state;
+    let have = last.left;
     let got = libc::read(STDIN_FILENO, &mut buf[have..]);
     if got < 0 {
         io::write_all(STDERR_FILENO, b"portbench: standard input cannot be read\n");
-        return after(st, 0, Going::Stopped);
+        return after(state, 0, Going::Stopped);
     }
     let n = io::count(got, &buf[have..]);
-    if n == 0 {
-        return after(st, have, Going::Over);
-    }
-    take_records(st, buf, have + n, out)
+    take_read(last, buf, n, out)
 }
 
-// `have`: how many octets are left behind the last whole record; where there are some, they are a 13.
-fn finish(st: State, have: usize, out: &mut [u8])
-    ensures { λ _. ⌜ now (out .exit) ≡ runs.fronted (runs.finishText st (ltb 0 have) (length (now (out .entry)))) (now (out .entry)) ⌝ }
+// Where octets are left, they are a 13.
+fn finish(last: Block, out: &mut [u8])
+    ensures { λ _. ⌜ now (out .exit) ≡ runs.fronted (runs.finishText (last .state) (ltb 0 (last .left)) (length (now (out .entry)))) (now (out .entry)) ⌝ }
 {
-    let n = session::finish(st, have > 0, out);
+    let n = session::finish(last.state, last.left > 0, out);
     io::write_all(STDOUT_FILENO, &out[..n]);
 }
 
 // Nothing says that the input ends, and a loop has to: so it counts its turns down, from a number that no run uses up.
-fn run(buf: &mut [u8], out: &mut [u8]) {
-    let mut st = session::start();
-    let mut have: usize = 0;
+fn run(buf: &mut [u8], out: &mut [u8]) -> Going
+    requires { ⌜ runs.closingRoom ≤ length (now out) ⌝ }
+    ensures { λ r. ⌜ kept.Ran r (now (out .exit)) ⌝ }
+{
+    let mut last = after(session::start(), 0, Going::On);
     let mut turns = u64::MAX;
     while turns > 0 {
         turns -= 1;
-        if have > buf.len() {
-            return;
-        }
-        let n = read_block(st, buf, have, out);
-        let going = n.going;
-        st = n.state;
-        have = n.left;
+        last = read_block(last, buf, out);
+        let going = last.going;
         match going {
             Going::On => {}
             Going::Over => {
-                finish(st, have, out);
-                return;
+                finish(last, out);
+                return Going::Over;
             }
             Going::Stopped => {
-                return;
+                return Going::Stopped;
             }
         }
     }
+    Going::On
 }
 
 fn main() {

@@ -1,17 +1,43 @@
 -- `portbench::run` meets its contract. Assumes nothing.
 use native.Mathlib.Omega.{arith}
-use Prim.Native.Nat.{_-_, _≤_}
-use mathlib.Core.Path.{_≡_}
+use mathlib.Core.Path.{_≡_, refl, ap, _∙_}
 use lib.ListN.{length}
 use borrow.Author.Needs.{needs}
+use Rattle.session.specs.declared.State.{State}
+use Rattle.portbench.specs.declared.Going.the-variants.{On}
+use Rattle.portbench.specs.Kept.{unended, failed}
+use Rattle.portbench.proofs.Reading.{Carried, first, fits, next, over, closes}
 use Rattle.portbench.proofs.run.Statement.{statement}
 use Rattle.portbench.proofs.run.Tie as tie
 
 abbrev Inv-loop : tie.InvT-loop
-Inv-loop buf₀ out₀ st₀ have₀ turns₀ buf out st have turns = (length buf ≡ length buf₀) × (length out ≡ length out₀)
+Inv-loop buf₀ out₀ last₀ turns₀ buf out last turns = (length buf ≡ length buf₀) × (length out ≡ length out₀) × Carried last buf
 
 abbrev μ-loop : tie.MeasureT-loop
-μ-loop buf₀ out₀ st₀ have₀ turns₀ buf out st have turns = turns
+μ-loop buf₀ out₀ last₀ turns₀ buf out last turns = turns
+
+loop-holds : tie.Need-loop-holds Inv-loop μ-loop
+loop-holds c = (refl, refl, first _ _ (c .after .ensures ∙ ap (λ (st : State). record { state = st; left = 0; going = On }) (c .before .start .ensures)))
+
+read-block-requires : tie.Need-read-block-requires Inv-loop μ-loop
+read-block-requires c κs = (fits (c .before .before .before .loop .inv .2), omega (arith, c .before .before .before .before .before .before .before .before .pre))
+
+loop-again : tie.Need-loop-again Inv-loop μ-loop
+loop-again c =
+    let b = c .before .before .before .before .before .before .read-block in
+    (search needs, search needs, next (c .before .before .before .before .before .before .before .before .before .before .loop .inv .2) (b .ensures) (c .enum-told .given .1))
+
+returns : tie.Need-returns Inv-loop μ-loop
+returns c =
+    let b = c .before .before .before .before .before .before .before .before .before .before .read-block in
+    let session = over (c .before .before .before .before .before .before .before .before .before .before .before .before .before .before .loop .inv .2) (b .ensures) (c .before .before .before .before .enum-told2 .given .1) in
+    closes session (b .last .1 .1 .0) _ (omega (arith, c .before .before .before .before .before .before .before .before .before .before .before .before .before .before .before .before .before .before .before .pre)) (c .before .before .finish .ensures) refl
+
+returns-2 : tie.Need-returns-2 Inv-loop μ-loop
+returns-2 c = failed refl
+
+returns-3 : tie.Need-returns-3 Inv-loop μ-loop
+returns-3 c = unended refl
 
 pub run-spec : {M : Type 1} → statement M
 run-spec =
@@ -20,24 +46,22 @@ run-spec =
     Inv-loop
     μ-loop
     (λ c κs. search needs)
+    (λ c κs. search needs)
+    loop-holds
+    (λ c. search needs)
+    read-block-requires
     (λ c. search needs)
     (λ c. search needs)
-    (λ c. search needs)
-    (λ c. search needs)
+    loop-again
     (λ c. search needs)
     (λ c κs. search needs)
     (λ c. search needs)
     (λ c. search needs)
-    (λ c. search needs)
-    (λ c. search needs)
-    (λ c κs. search needs)
-    (λ c. search needs)
+    returns
     (λ c. search needs)
     (λ c. search needs)
     (λ c. search needs)
+    returns-2
     (λ c. search needs)
     (λ c. search needs)
-    (λ c. search needs)
-    (λ c. search needs)
-    (λ c. search needs)
-    (λ c. search needs))
+    returns-3)
