@@ -109,14 +109,28 @@ pub(crate) fn arrival_row(m: Master, faults: bool) -> Row
     if faults { Row::T7 } else { Row::T4 }
 }
 
+// Written field by field: in a copy with three octets stored, the rows that follow read four and eight octets across them, and wait for the stores.
 pub(crate) fn taken(m: Master, f: Response) -> Master
     ensures { λ r. ⌜ r ≡ table38.taken m f ⌝ }
 {
-    let mut n = m;
-    n.previous = true;
-    n.carried = f.DCount_i;
-    n.awaited = scl::inverted_count(m.MCount);
-    n
+    Master {
+        state: m.state,
+        MCount: m.MCount,
+        setSD: m.setSD,
+        SDset_S: m.SDset_S,
+        ChFAckReq: m.ChFAckReq,
+        ChFAckReq_S: m.ChFAckReq_S,
+        ChFAck_C_e: m.ChFAck_C_e,
+        setSD_C: m.setSD_C,
+        ChFAck_C: m.ChFAck_C,
+        previous: true,
+        carried: f.DCount_i,
+        awaited: scl::inverted_count(m.MCount),
+        MTimer: m.MTimer,
+        runs: m.runs,
+        sample: m.sample,
+        released: m.released,
+    }
 }
 
 fn sample_from(m: Master, count: u8, at: u32) -> u32
