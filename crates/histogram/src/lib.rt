@@ -25,10 +25,10 @@ pub struct Histogram {
     pub highest: u16,
 }
 
-// All of a histogram but its bins, for a caller that keeps the bins elsewhere.
+// All of a histogram but its bins, for a caller that keeps the bins elsewhere. In this order it has no padding, which would be copied too.
 pub struct Totals {
-    pub total: u32,
     pub sum: u64,
+    pub total: u32,
     pub lowest: u16,
     pub highest: u16,
 }
