@@ -1,13 +1,18 @@
 -- The octets that one read after the other brings are one session, and at its end the text is that of the session. Assumes nothing.
-use Prim.Native.Nat.{ℕ, zero, suc, _+_, _≤_, _<_}
+use Prim.Native.Nat.{ℕ, zero, suc, _+_, _-_, _≤_, _<_}
 use native.Mathlib.Omega.{arith}
 use mathlib.Core.Path.{_≡_, refl, sym, ap, _∙_}
-use mathlib.Core.Bool.{Bool, false, not}
+use mathlib.Core.Bool.{true, false, not}
 use mathlib.Core.List.{List, [], _++_}
 use lib.Dec.{eqb, ltb}
-use lib.ListN.{length, take, drop, length-take, length-drop}
-use lib.Seq.{take-append-seam, length-take-le, take-add}
-use borrow.Author.Tests.{lt-ltb, le-ltb, ne-eqb}
+use lib.IntN.{ℤ, pos, negsuc}
+use lib.Signed.{ltZ}
+use lib.ListN.{length, take, drop, length-take}
+use lib.Seq.{take-append-seam, take-add}
+use borrow.Author.Tests.{ltb-true, lt-ltb, le-ltb, ne-eqb}
+use borrow.Rule.Slice.PartMut.{midOf, mid-len}
+use Rattle.libc.specs.Io.{Moved}
+use Rattle.io.specs.Counts.{clamped}
 use Rattle.record.specs.Format.{form}
 use Rattle.session.specs.declared.State.{State}
 use Rattle.session.specs.Run.{Entry, isWhole, start, ran, printed, closing, closingRoom, finishText, fronted}
@@ -15,19 +20,41 @@ use Rattle.session.proofs.Blocks.{Reads, reads-of, extended, joined, fewer, all
 use Rattle.portbench.specs.declared.Block.{Block}
 use Rattle.portbench.specs.declared.Going.{Going}
 use Rattle.portbench.specs.declared.Going.the-variants.{On, Over, Stopped}
-use Rattle.portbench.specs.Kept.{recordsIn, leftOf, blockOf, Taken, unwritten, taken, Brought, none, some, Read, unread, read, Ran, ended}
+use Rattle.portbench.specs.Kept.{recordsIn, leftOf, stopped, blockOf, Taken, unwritten, taken, Brought, unread, none, some, Read, read, Ran, ended}
 
--- n octets behind those that are kept
-pub some-brought : (last r : Block) (n : ℕ) (buf buf′ : List ℕ) → 0 < n → last .left + n ≤ length buf
-    → Taken (last .state) (take (last .left + n) buf) r buf′ → Brought last (take (last .left) buf) (take n (drop (last .left) buf)) r buf′
-some-brought last r n buf buf′ h fits t =
-    let size : length (take n (drop (last .left) buf)) ≡ n = length-take-le n (drop (last .left) buf) (omega (arith, length-drop (last .left) buf)) in
-    some (omega arith) (rw (take-add (last .left) n buf) at t)
+-- ---- What `read` answered, which the machine reads back from its bits as got′
 
--- a read leaves the octets before it
-pub behind : (last r : Block) (buf now s buf′ : List ℕ) → take (last .left) now ≡ take (last .left) buf → Brought last (take (last .left) now) s r buf′
-    → Read last (take (last .left) buf) r buf′
-behind last r buf now s buf′ e b = read s (rw e at b)
+module _ {last r : Block} {buf buf′ : List ℕ} where
+  below : (got : ℤ) → ltZ got (pos 0) ≡ true → r ≡ stopped (last .state) → Brought last got buf r buf′
+  below (pos k) e h = absurd (omega (arith, ltb-true k 0 e))
+  below (negsuc k) e h = unread k refl h
+
+  pub below-zero : {got got′ : ℤ} → got′ ≡ got → ltZ got′ (pos 0) ≡ true → r ≡ stopped (last .state) → Brought last got buf r buf′
+  below-zero {got} same e h = below got (rw same at e) h
+
+  module _ (n : ℕ) where
+    at : (got : ℤ) → ltZ got (pos 0) ≡ false → Moved (length buf - last .left) got
+        → n ≡ clamped got (length (midOf (last .left) (length buf - last .left) buf)) → n ≡ 0
+        → r ≡ record { state = last .state; left = last .left; going = Over } → Brought last got buf r buf′
+    at (pos k) e m c z h = let k0 : k ≡ 0 = omega (arith, mid-len (last .left) (length buf) buf (omega arith)) in none (ap pos k0) h
+    at (negsuc k) e m c z h = let y : _≡_ {A = ℕ} 0 1 = cc in absurd (omega arith)
+
+    above : (got : ℤ) → ltZ got (pos 0) ≡ false → Moved (length buf - last .left) got
+        → n ≡ clamped got (length (midOf (last .left) (length buf - last .left) buf)) → 0 < n
+        → Taken (last .state) (take (last .left + n) buf) r buf′ → Brought last got buf r buf′
+    above (pos zero) e m c z h = absurd (omega arith)
+    above (pos (suc k)) e m c z h = let same : n ≡ suc k = omega (arith, mid-len (last .left) (length buf) buf (omega arith)) in some k refl (rw same at h)
+    above (negsuc k) e m c z h = let y : _≡_ {A = ℕ} 0 1 = cc in absurd (omega arith)
+
+    module _ {got got′ : ℤ} (same : got′ ≡ got) (e : ltZ got′ (pos 0) ≡ false) (m : Moved (length buf - last .left) got)
+        (c : n ≡ clamped got′ (length (midOf (last .left) (length buf - last .left) buf))) where
+      pub at-zero : n ≡ 0 → r ≡ record { state = last .state; left = last .left; going = Over } → Brought last got buf r buf′
+      at-zero = at got (rw same at e) m (rw same at c)
+
+      pub above-zero : 0 < n → Taken (last .state) (take (last .left + n) buf) r buf′ → Brought last got buf r buf′
+      above-zero = above got (rw same at e) m (rw same at c)
+
+-- ---- One read after the other
 
 -- Up to this block, these octets have been read.
 pub record Session (last : Block) : Type 0 where
@@ -77,17 +104,24 @@ module _ {last r : Block} {buf buf′ : List ℕ} (k : Carried last buf) where
         kept = rw (k .kept) at b ∙ sym (g .1);
       }
 
+  -- the octets of a read
+  brought : (n : ℕ) (now : List ℕ) → take (last .left) now ≡ take (last .left) buf → r ≡ blockOf (last .state) (take (last .left + n) now)
+      → isWhole (form (leftOf (take (last .left + n) now))) ≡ false → take (r .left) buf′ ≡ leftOf (take (last .left + n) now) → Carried r buf′
+  brought n now e f w b =
+      let split : take (last .left + n) now ≡ take (last .left) buf ++ take n (drop (last .left) now) = rw (take-add (last .left) n now, e) in
+      longer (take n (drop (last .left) now)) (rw split at f) (rw split at w) (rw split at b)
+
   pub next : Read last (take (last .left) buf) r buf′ → r .going ≡ On → Carried r buf′
-  next (unread e) g = let z : _≡_ {A = ℕ} 0 1 = cc (goes e) in absurd (omega arith)
-  next (read t (none y e)) g = let z : _≡_ {A = ℕ} 0 1 = cc (goes e) in absurd (omega arith)
-  next (read t (some n (unwritten e))) g = let z : _≡_ {A = ℕ} 0 1 = cc (goes e) in absurd (omega arith)
-  next (read t (some n (taken e w b))) g = longer t e w b
+  next (read got now e (unread m z f)) g = let z : _≡_ {A = ℕ} 0 1 = cc (goes f) in absurd (omega arith)
+  next (read got now e (none z f)) g = let z : _≡_ {A = ℕ} 0 1 = cc (goes f) in absurd (omega arith)
+  next (read got now e (some n z (unwritten f))) g = let z : _≡_ {A = ℕ} 0 1 = cc (goes f) in absurd (omega arith)
+  next (read got now e (some n z (taken f w b))) g = brought (suc n) now e f w b
 
   pub over : Read last (take (last .left) buf) r buf′ → r .going ≡ Over → Session r
-  over (unread e) g = let z : _≡_ {A = ℕ} 0 1 = cc (goes e) in absurd (omega arith)
-  over (read t (none y e)) g = rw e (record { octets = k .session .octets; state = k .session .state; left = k .session .left })
-  over (read t (some n (unwritten e))) g = let z : _≡_ {A = ℕ} 0 1 = cc (goes e) in absurd (omega arith)
-  over (read t (some n (taken e w b))) g = longer t e w b .session
+  over (read got now e (unread m z f)) g = let z : _≡_ {A = ℕ} 0 1 = cc (goes f) in absurd (omega arith)
+  over (read got now e (none z f)) g = rw f (record { octets = k .session .octets; state = k .session .state; left = k .session .left })
+  over (read got now e (some n z (unwritten f))) g = let z : _≡_ {A = ℕ} 0 1 = cc (goes f) in absurd (omega arith)
+  over (read got now e (some n z (taken f w b))) g = brought (suc n) now e f w b .session
 
 some-left : (n : ℕ) → not (eqb n 0) ≡ ltb 0 n
 some-left zero = refl

@@ -1,8 +1,9 @@
 -- 01, "The session program": what `portbench` makes of the octets that it reads, block by block, and what it keeps of them. Assumes nothing.
-use Prim.Native.Nat.{ℕ, _<_}
+use Prim.Native.Nat.{ℕ, suc, _+_}
 use mathlib.Core.Path.{_≡_}
 use mathlib.Core.Bool.{false}
 use mathlib.Core.List.{List, _++_}
+use lib.IntN.{ℤ, pos, negsuc}
 use lib.ListN.{length, take, drop}
 use Rattle.record.specs.Format.{Form, nothing, part, bad, whole, form}
 use Rattle.session.specs.declared.State.{State}
@@ -43,15 +44,15 @@ pub data Taken (st : State) (s : List ℕ) (r : Block) (buf : List ℕ) : Type 0
   unwritten : r ≡ stopped st → Taken st s r buf
   taken : r ≡ blockOf st s → isWhole (form (leftOf s)) ≡ false → take (r .left) buf ≡ leftOf s → Taken st s r buf
 
--- The same after the octets s behind those that were kept from the last block. None are the end of the input.
-pub data Brought (last : Block) (kept s : List ℕ) (r : Block) (buf : List ℕ) : Type 0 where
-  none : length s ≡ 0 → r ≡ record { state = last .state; left = last .left; going = Over } → Brought last kept s r buf
-  some : 0 < length s → Taken (last .state) (kept ++ s) r buf → Brought last kept s r buf
+-- The same after what `read` answered, with its octets behind those that are left from the last block. None are the end of the input.
+pub data Brought (last : Block) (got : ℤ) (buf : List ℕ) (r : Block) (buf′ : List ℕ) : Type 0 where
+  unread : (k : ℕ) → got ≡ negsuc k → r ≡ stopped (last .state) → Brought last got buf r buf′
+  none : got ≡ pos 0 → r ≡ record { state = last .state; left = last .left; going = Over } → Brought last got buf r buf′
+  some : (n : ℕ) → got ≡ pos (suc n) → Taken (last .state) (take (last .left + suc n) buf) r buf′ → Brought last got buf r buf′
 
--- The same after a read. No contract says whether it failed, and which octets it brought.
-pub data Read (last : Block) (kept : List ℕ) (r : Block) (buf : List ℕ) : Type 0 where
-  unread : r ≡ stopped (last .state) → Read last kept r buf
-  read : (s : List ℕ) → Brought last kept s r buf → Read last kept r buf
+-- The same after a read. No contract says what it answered and which octets it brought; those that were kept are left.
+pub data Read (last : Block) (kept : List ℕ) (r : Block) (buf′ : List ℕ) : Type 0 where
+  read : (got : ℤ) (buf : List ℕ) → take (last .left) buf ≡ kept → Brought last got buf r buf′ → Read last kept r buf′
 
 -- After all reads: where a session s has ended, the buffer for text has at its front what is printed of s behind the lines of its records.
 pub data Ran (r : Going) (out : List ℕ) : Type 0 where

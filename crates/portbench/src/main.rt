@@ -2,9 +2,10 @@
 // contracts of `session`; here it is proved that no step goes wrong, that the program ends, what each block comes to and what is kept of it, and
 // what `finish` makes of the last.
 ghost use mathlib.Core.Path.{_≡_};
-ghost use Prim.Native.Nat.{_+_, _-_, _≤_};
+ghost use Prim.Native.Nat.{_-_, _≤_};
 ghost use lib.Dec.{ltb};
-ghost use lib.ListN.{length, take, drop};
+ghost use lib.ListN.{length, take};
+ghost use Rattle.libc.specs.Io.{Moved};
 ghost use Rattle.portbench.specs.Kept as kept;
 ghost use Rattle.session.specs.Run as runs;
 use libc::STDERR_FILENO;
@@ -91,14 +92,20 @@ fn take_records(st: State, buf: &mut [u8], to: usize, out: &mut [u8]) -> Block
     }
 }
 
-// n octets more stand behind those that are left from the last block; none are the end of the input.
-fn take_read(last: Block, buf: &mut [u8], n: usize, out: &mut [u8]) -> Block
-    requires { ⌜ last .left + n ≤ length (now buf) ⌝ }
+// What `read` answered after it put octets behind those that are left from the last block.
+fn take_read(last: Block, buf: &mut [u8], got: isize, out: &mut [u8]) -> Block
+    requires { ⌜ last .left ≤ length (now buf) ⌝ }
+    requires { ⌜ Moved (length (now buf) - last .left) got ⌝ }
     requires { ⌜ runs.lineRoom ≤ length (now out) ⌝ }
-    ensures { λ r. ⌜ kept.Brought last (take (last .left) (now (buf .entry))) (take n (drop (last .left) (now (buf .entry)))) r (now (buf .exit)) ⌝ }
+    ensures { λ r. ⌜ kept.Brought last got (now (buf .entry)) r (now (buf .exit)) ⌝ }
 {
     let state = last.state;
     let have = last.left;
+    if got < 0 {
+        io::write_all(STDERR_FILENO, b"portbench: standard input cannot be read\n");
+        return after(state, 0, Going::Stopped);
+    }
+    let n = io::count(got, &buf[have..]);
     if n == 0 {
         return after(state, have, Going::Over);
     }
@@ -111,15 +118,9 @@ fn read_block(last: Block, buf: &mut [u8], out: &mut [u8]) -> Block
     requires { ⌜ runs.lineRoom ≤ length (now out) ⌝ }
     ensures { λ r. ⌜ kept.Read last (take (last .left) (now (buf .entry))) r (now (buf .exit)) ⌝ }
 {
-    let state = last.state;
     let have = last.left;
     let got = libc::read(STDIN_FILENO, &mut buf[have..]);
-    if got < 0 {
-        io::write_all(STDERR_FILENO, b"portbench: standard input cannot be read\n");
-        return after(state, 0, Going::Stopped);
-    }
-    let n = io::count(got, &buf[have..]);
-    take_read(last, buf, n, out)
+    take_read(last, buf, got, out)
 }
 
 // Where octets are left, they are a 13.
