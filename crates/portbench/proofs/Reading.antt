@@ -19,7 +19,7 @@ use Rattle.session.specs.Run.{Entry, isWhole, start, ran, printed, closing, clo
 use Rattle.session.proofs.Blocks.{Reads, reads-of, extended, joined, fewer, all-of, ran-append}
 use Rattle.portbench.specs.declared.Block.{Block}
 use Rattle.portbench.specs.declared.Going.{Going}
-use Rattle.portbench.specs.declared.Going.the-variants.{On, Over, Stopped}
+use Rattle.portbench.specs.declared.Going.the-variants.{On, Over}
 use Rattle.portbench.specs.Kept.{recordsIn, leftOf, stopped, blockOf, Taken, unwritten, taken, Brought, unread, none, some, Read, read, Ran, ended}
 
 -- ---- What `read` answered, which the machine reads back from its bits as got′
@@ -57,7 +57,7 @@ module _ {last r : Block} {buf buf′ : List ℕ} where
 -- ---- One read after the other
 
 -- Up to this block, these octets have been read.
-pub record Session (last : Block) : Type 0 where
+record Session (last : Block) : Type 0 where
   pub octets : List ℕ
   pub state : last .state ≡ ran start (recordsIn octets)
   pub left : last .left ≡ length (leftOf octets)

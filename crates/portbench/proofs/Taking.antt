@@ -17,7 +17,7 @@ use Rattle.portbench.specs.declared.Block.{Block}
 use Rattle.portbench.specs.Kept.{toFront, goingOn, blockOf, Taken, taken}
 
 -- the form of what stands where a call of `feed` stopped
-abbrev pub formAt : Stop → Form
+abbrev formAt : Stop → Form
 formAt Full = whole
 formAt Bad = bad
 formAt Cut = part

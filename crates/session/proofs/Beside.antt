@@ -14,21 +14,21 @@ use Rattle.bench.specs.declared.Port.{Port}
 use Rattle.session.specs.Columns.{joined, beside, portsOf}
 
 module _ {A B C : Type 0} (f : A → B → C) where
-  pub set-beside : (xs : List A) (ys : List B) (k : ℕ) (x : A) (y : B) → beside f (set xs k x) (set ys k y) ≡ set (beside f xs ys) k (f x y)
+  set-beside : (xs : List A) (ys : List B) (k : ℕ) (x : A) (y : B) → beside f (set xs k x) (set ys k y) ≡ set (beside f xs ys) k (f x y)
   set-beside [] ys k x y = refl
   set-beside (a ∷ xs) [] zero x y = refl
   set-beside (a ∷ xs) [] (suc k) x y = refl
   set-beside (a ∷ xs) (b ∷ ys) zero x y = refl
   set-beside (a ∷ xs) (b ∷ ys) (suc k) x y = ap (λ (l : List C). f a b ∷ l) (set-beside xs ys k x y)
 
-  pub getD-beside : (xs : List A) (ys : List B) (k : ℕ) (x : A) (y : B) (z : C) → k < length xs → k < length ys
+  getD-beside : (xs : List A) (ys : List B) (k : ℕ) (x : A) (y : B) (z : C) → k < length xs → k < length ys
       → getD (beside f xs ys) k z ≡ f (getD xs k x) (getD ys k y)
   getD-beside [] ys k x y z h h′ = absurd (omega arith)
   getD-beside (a ∷ xs) [] k x y z h h′ = absurd (omega arith)
   getD-beside (a ∷ xs) (b ∷ ys) zero x y z h h′ = refl
   getD-beside (a ∷ xs) (b ∷ ys) (suc k) x y z h h′ = getD-beside xs ys k x y z (omega arith) (omega arith)
 
-  pub length-beside : (xs : List A) (ys : List B) → length xs ≡ length ys → length (beside f xs ys) ≡ length ys
+  length-beside : (xs : List A) (ys : List B) → length xs ≡ length ys → length (beside f xs ys) ≡ length ys
   length-beside [] [] h = refl
   length-beside [] (b ∷ ys) h = h
   length-beside (a ∷ xs) [] h = refl

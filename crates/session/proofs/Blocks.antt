@@ -41,7 +41,7 @@ pub data Reads : List ℕ → List Entry → List ℕ → Type 0 where
   here : {s : List ℕ} → Reads s [] s
   next : {s r : List ℕ} {rs : List Entry} → form s ≡ whole → Reads (drop (sizeOf s) s) rs r → Reads s (entryOf s ∷ rs) r
 
-pub reads-of-by : (n : ℕ) (s : List ℕ) (f : Form) → form s ≡ f → Reads s (recordsOf n s) (restOf n s)
+reads-of-by : (n : ℕ) (s : List ℕ) (f : Form) → form s ≡ f → Reads s (recordsOf n s) (restOf n s)
 reads-of-by zero s f e = here
 reads-of-by (suc n) s nothing e = rw e here
 reads-of-by (suc n) s part e = rw e here

@@ -95,22 +95,22 @@ module _ {st₀ : State} {s out₀ : List ℕ} {n : ℕ} {out : List ℕ} {st : 
 
   -- nothing more is read
   module _ (none : recordsOf n′ (drop at s) ≡ []) (left : restOf n′ (drop at s) ≡ drop at s) (a : at ≤ length s) (b : w ≤ length out) where
-    pub text-is : told st₀ (recordsOf n s) ≡ take w out
+    text-is : told st₀ (recordsOf n s) ≡ take w out
     text-is = l .text ∙ rw none (append-nil (take w out))
 
-    pub rest-is : restOf n s ≡ drop at s
+    rest-is : restOf n s ≡ drop at s
     rest-is = l .rest ∙ left
 
-    pub state-is : ran st₀ (recordsOf n s) ≡ st
+    state-is : ran st₀ (recordsOf n s) ≡ st
     state-is = l .state ∙ rw none
 
-    pub used-is : at ≡ length s - length (restOf n s)
+    used-is : at ≡ length s - length (restOf n s)
     used-is = rw rest-is (omega (arith, length-drop at s))
 
-    pub written-is : w ≡ length (told st₀ (recordsOf n s))
+    written-is : w ≡ length (told st₀ (recordsOf n s))
     written-is = rw text-is (sym (length-take-le w out b))
 
-    pub out-is : out ≡ fronted (told st₀ (recordsOf n s)) out₀
+    out-is : out ≡ fronted (told st₀ (recordsOf n s)) out₀
     out-is = rw (← written-is, text-is, ← l .behind) (sym (take-append-drop w out))
 
 -- ---- What `feed` gives
@@ -122,18 +122,18 @@ same-fed {st} {st′} {u} {u′} {w} {w′} {z} {z′} a b c d = rw (a, b, c, d)
 module _ {st₀ st₁ : State} {s out₀ : List ℕ} {n : ℕ} {out : List ℕ} {st : State} {n′ at w : ℕ} (l : Link st₀ s out₀ n out st n′ at w)
     (same : st₀ ≡ st₁) (room : n ≡ length out₀ / lineRoom)
     (none : recordsOf n′ (drop at s) ≡ []) (left : restOf n′ (drop at s) ≡ drop at s) (a : at ≤ length s) (b : w ≤ length out) where
-  pub fed-is : {z : Stop} → z ≡ stopOf (form (drop at s)) → _≡_ {A = Fed} (record { state = st; used = at; written = w; stop = z }) (fedOf st₁ s (length out₀))
+  fed-is : {z : Stop} → z ≡ stopOf (form (drop at s)) → _≡_ {A = Fed} (record { state = st; used = at; written = w; stop = z }) (fedOf st₁ s (length out₀))
   unfolding fedOf
   fed-is {z} e =
       rw (← same, ← room)
       (same-fed (sym (state-is l none left a b)) (used-is l none left a b) (written-is l none left a b) (rw (rest-is l none left a b) e))
 
-  pub text-out : out ≡ fedText st₁ s out₀
+  text-out : out ≡ fedText st₁ s out₀
   unfolding fedText
   text-out = rw (← same, ← room) (out-is l none left a b)
 
 -- what `feed` promises of its answer r and of the buffer after it
-abbrev pub Promised : State → List ℕ → List ℕ → List ℕ → Fed → Type 0
+abbrev Promised : State → List ℕ → List ℕ → List ℕ → Fed → Type 0
 Promised st s out₀ out r = (r ≡ fedOf st s (length out₀)) × ((out ≡ fedText st s out₀) × ((r .used ≤ length s) × Counts (r .written) out))
 
 abbrev pub fed : State → ℕ → ℕ → Stop → Fed
@@ -178,7 +178,7 @@ module _ (b : Bench) (records refused m : ℕ) (e : Entry) (p : Port) (b′ : Be
       ∙ ap (λ (p : Port). record { ports = actPorts (b .ports) (placeOf (e .port)) (e .at) (actBy byBits (p .running) (p .params) e) }) hp
       ∙ turn-bench b e
 
-  pub state-after : (r : ℕ) → r ≡ refusedAfter refused x → stateOf b′ m r ≡ applied (stateOf b records refused) e
+  state-after : (r : ℕ) → r ≡ refusedAfter refused x → stateOf b′ m r ≡ applied (stateOf b records refused) e
   unfolding applied
   state-after r hr =
       ap (λ (n : ℕ). stateOf b′ n r) hm
@@ -186,7 +186,7 @@ module _ (b : Bench) (records refused m : ℕ) (e : Entry) (p : Port) (b′ : Be
       ∙ ap (λ (z : Bench). stateOf z (more records) (refusedAfter refused x)) bench-is
       ∙ ap (λ (a : Answer). stateOf (after b (callOf b e)) (more records) (refusedAfter refused a)) answer-is
 
-  pub line-after : lineFor m x ≡ lineOf (stateOf b records refused) e
+  line-after : lineFor m x ≡ lineOf (stateOf b records refused) e
   unfolding lineOf
   line-after = ap (λ (n : ℕ). lineFor n x) hm ∙ ap (λ (a : Answer). lineFor (more records) a) answer-is
 

@@ -38,7 +38,7 @@ use Rattle.session.proofs.Seven.{safe-in, safe-out, call}
 -- ---- At one port
 
 -- what an act does at a port
-abbrev pub actDone : Port → ℕ → Act → PortAfter
+abbrev actDone : Port → ℕ → Act → PortAfter
 actDone p at (Refused a) = record { port = p; reply = silent a }
 actDone p at (Accepted q) = record { port = acceptedPort p q at; reply = silent answers.Taken }
 actDone p at (Happens h) = stepOf p h
@@ -126,7 +126,7 @@ module _ (p : Port) (e : Entry) where
   done-act false false true = happens _ _ _ clock-rules
   done-act false false false = happens _ _ _ operator-rules
 
-  pub act-done : done (eqb (e .kind) 1) (eqb (e .kind) 2) (eqb (e .kind) 3) ≡ actDone p (e .at) (actBy byBits (p .running) (p .params) e)
+  act-done : done (eqb (e .kind) 1) (eqb (e .kind) 2) (eqb (e .kind) 3) ≡ actDone p (e .at) (actBy byBits (p .running) (p .params) e)
   act-done = done-act (eqb (e .kind) 1) (eqb (e .kind) 2) (eqb (e .kind) 3)
 
 -- ---- At the bench
