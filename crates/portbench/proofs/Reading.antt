@@ -57,7 +57,7 @@ module _ {last r : Block} {buf buf′ : List ℕ} where
 -- ---- One read after the other
 
 -- Up to this block, these octets have been read.
-record Session (last : Block) : Type 0 where
+pub record Session (last : Block) : Type 0 where
   pub octets : List ℕ
   pub state : last .state ≡ ran start (recordsIn octets)
   pub left : last .left ≡ length (leftOf octets)
