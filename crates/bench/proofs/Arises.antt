@@ -3,10 +3,11 @@
 use Prim.Native.Nat.{ℕ, _<_}
 use native.Mathlib.Omega.{arith}
 use mathlib.Core.Path.{_≡_, refl}
-use mathlib.Core.Bool.{true, false}
+use mathlib.Core.Bool.{true, false, cond}
 use mathlib.Core.List.{List, [], _∷_, _++_}
+use lib.Dec.{eqb, leb}
 use lib.ListN.{length, take, getD}
-use Rattle.answer.specs.declared.Answer.the-variants.{NoPort}
+use Rattle.answer.specs.declared.Answer.the-variants.{Taken, NoPort, NoSamples}
 use Rattle.answer.specs.Answers.{isTaken}
 use Rattle.block.specs.Table22.{paramsOf}
 use Rattle.block.proofs.Arises.{good, octets-of}
@@ -24,7 +25,7 @@ use Rattle.scl.specs.declared.Happening.the-variants as happening
 use Rattle.fs_master.specs.Table38 as table38
 use Rattle.fs_master.specs.Calls as masters
 use Rattle.fs_master.specs.History as masterSpecs
-use Rattle.fs_master.specs.History.{masterAfter, judgedIn, passesBy, hasPassed, None, fault}
+use Rattle.fs_master.specs.History.{masterAfter, judgedIn, passesBy, hasPassed, signals, HoldsSignals, None, fault}
 use Rattle.fs_device.specs.Table40 as table40
 use Rattle.fs_device.specs.Calls as devices
 use Rattle.fs_device.specs.History as deviceSpecs
@@ -38,13 +39,13 @@ use Rattle.bench.specs.declared.Port.{Port}
 use Rattle.bench.specs.Ports.{newPort, acceptedPort, newBench, noPort, portAt, withPort, stepOf, silent}
 use Rattle.bench.specs.Calls as calls
 use Rattle.bench.specs.Images.{composeAnswer, composed, buildAnswer, responseOut, handedTo, handedOut}
-use Rattle.bench.specs.Shown.{trendOf}
-use Rattle.bench.specs.History.{Call, SetParameters, ReceiveResponse, ReceiveRequest, Clock, portOf, answerOf, after, history, goesOn, extended, since, sinceBlock, StandsSince, Stands, Arising, blockIn, OctetsIn, no-call, one-more}
+use Rattle.bench.specs.Shown.{trendOf, binsOf}
+use Rattle.bench.specs.History.{Call, SetParameters, ReceiveResponse, ReceiveRequest, Clock, portOf, answerOf, after, history, addressing, goesOn, extended, since, sinceBlock, StandsSince, Stands, Arising, blockIn, OctetsIn, no-call, one-more}
 use Rattle.bench.proofs.Answers.{refused-same, left-out, compose-refused, build-refused, handed-refused}
-use Rattle.bench.proofs.AtPort.{eight, takenAt, taken-at, other-at}
+use Rattle.bench.proofs.AtPort.{eight, takenAt, taken-at, other-at, others}
 use Rattle.bench.proofs.History.{stands}
-use Rattle.bench.proofs.Release.{passed-first, acknowledged, cycles-first, after-error}
-use Rattle.bench.proofs.Showing.{trend-shown}
+use Rattle.bench.proofs.Release.{passed-first, acknowledged, signals-hold, cycles-first, after-error}
+use Rattle.bench.proofs.Showing.{frozen-shown, trend-answer, trend-shown}
 use Rattle.bench.proofs.HandedOn as handing
 use Rattle.bench.proofs.Never.{arising}
 
@@ -159,6 +160,9 @@ cycles-first-met = cycles-first 1 refl worked 1000 (paramsOf good) past (asked .
 pub after-error-met : 4 < passedSince 1000 100 past
 after-error-met = after-error 1 refl worked 1000 (paramsOf good) past (asked .block) (asked .had-error) (asked .device-releases)
 
+pub signals-hold-met : HoldsSignals (signals past) (port .master)
+signals-hold-met = signals-hold 1 refl worked 1000 (paramsOf good) past (asked .block)
+
 stands-met : StandsSince port 1000 (paramsOf good) past
 unfolding Stands
 stands-met = rw (asked .block) at (stands 1 refl worked)
@@ -167,6 +171,12 @@ pub trend-shown-met :
     let counted = take limit (samples 1000 100 past) in
     Shows (sumOf counted) (length counted) (lowestOf counted) (highestOf counted) (trendOf 1 port .point)
 trend-shown-met = trend-shown 1 refl port 1000 (paramsOf good) past stands-met (rw (asked .one-sample) (omega arith))
+
+pub frozen-shown-met : binsOf 1 port .frozen ≡ leb limit (length (samples 1000 100 past))
+frozen-shown-met = frozen-shown 1 refl port 1000 (paramsOf good) past stands-met
+
+pub trend-answer-met : trendOf 1 port .answer ≡ cond (eqb (length (samples 1000 100 past)) 0) NoSamples Taken
+trend-answer-met = trend-answer 1 refl port 1000 (paramsOf good) past stands-met
 
 pub refused-same-met : after newBench refused ≡ newBench
 refused-same-met = refused-same newBench refused (asked .clock-refused)
@@ -182,6 +192,9 @@ taken-at-met = taken-at (history earlier) (eight earlier) (ReceiveRequest 1 1070
 pub other-at-met : portAt (after (history earlier) refused) 1 ≡ before
 unfolding portOf
 other-at-met = other-at (history earlier) (eight earlier) 1 refl refused refl
+
+pub others-met : portAt (history (refused ∷ worked)) 1 ≡ portAt (history (addressing 1 (refused ∷ worked))) 1
+others-met = others 1 refl (refused ∷ worked)
 
 -- buffers of a port that does not run
 pub compose-refused-met : composed 2 newPort [] [] (7 ∷ []) ≡ 7 ∷ []

@@ -4,6 +4,7 @@ use mathlib.Core.Bool.{true, false}
 use mathlib.Core.List.{List, [], _∷_, _++_}
 use Prim.Native.Nat.{ℕ}
 use native.Mathlib.Omega.{arith}
+use lib.Dec.{lit<}
 use lib.ListN.{replicate, set}
 use Rattle.gf2.specs.Polynomial.{Multiple, ones}
 use Rattle.gf2.specs.Bits.{bits, octetBits}
@@ -13,13 +14,15 @@ use Rattle.block.specs.Table22.{paramsOf}
 use Rattle.block.proofs.Arises.{good, octets-of}
 use Rattle.scl.specs.declared.Mark.the-variants.{Fresh, GoesOn, Safe, Nothing}
 use Rattle.spdu.specs.Signature.{widthOf, generatorOf, byBits}
+use Rattle.spdu.specs.Places.{carriedOf, signatureHolds}
 use Rattle.spdu.specs.Fields.{responseBy, requestBy}
 use Rattle.spdu.specs.Built.{controlOctet, statusOctet, spduWith}
 use Rattle.spdu.specs.Image.{handedOn}
 use Rattle.spdu.specs.Recording.{heldAmong, signaturesHeld}
 use Rattle.spdu.specs.Flips.{flippedSpdu}
 use Rattle.spdu.specs.RoundTrip.{requestBack, responseBack}
-use Rattle.spdu.proofs.ReadBack.{determined-by-fields}
+use Rattle.spdu.proofs.ReadBack.{read-carried, built-holds, determined-by-fields}
+use Rattle.spdu.proofs.Demand3.{empty-passes}
 use Rattle.spdu.proofs.Back.{request-back, response-back}
 use Rattle.spdu.proofs.Arrived as arrived
 use Rattle.spdu.proofs.Needed.{otherShort, otherLong, generatorShort, generatorLong, burstShort, burstLong, short-refused, long-refused, short-most-met, long-most-met, short-refused-met, long-refused-met}
@@ -36,6 +39,18 @@ request-back-met = request-back p (0x2A ∷ []) 3 true false refl
 
 pub response-back-met : responseBy byBits p (sent (statusOctet 4 true false true)) ≡ responseBack p 4 true false true
 response-back-met = response-back p (0x2A ∷ []) 4 true false true refl
+
+-- a signature of 16 bits fits its octets
+pub carried-met : carriedOf 1 (sent 0x60) ≡ 0xBBB0
+unfolding signature octet shiftInAll shiftIn
+carried-met = read-carried byBits 1 (0x2A ∷ []) 1 0x60 (lit< tt)
+
+pub built-met : signatureHolds byBits 1 (sent 0x60) ≡ true
+unfolding signature octet shiftInAll shiftIn
+built-met = built-holds byBits 1 (0x2A ∷ []) 1 0x60 (lit< tt)
+
+pub empty-met : signatureHolds byBits 1 (flippedSpdu 1 otherShort 3 0x20 (replicate 7 0)) ≡ true
+empty-met = empty-passes 1 otherShort 3 0x20 (replicate 7 0) refl
 
 pub determined-met : sent 0x62 ≡ sent 0x62
 unfolding signature octet shiftInAll shiftIn
