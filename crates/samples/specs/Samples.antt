@@ -84,7 +84,7 @@ previousBy m (happening.Request at q) r = r
 previousBy m (happening.Clock at) r = r
 previousBy m (happening.Operator at «setSD_C» «ChFAck_C») r = r
 
--- before any, the FS-Master keeps 0 for both counts and does not read them
+-- before any, the FS-Master keeps 0 for both counts, as the mirror of 7 is 0, and does not read them
 unfoldable pub lastTaken : ℕ → ℕ → List Happening → Previous
 lastTaken at w [] = record { previous = false; carried = 0; stood = 7 }
 lastTaken at w (h ∷ past) = previousBy (judgedIn at w past h) h (lastTaken at w past)

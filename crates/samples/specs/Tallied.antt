@@ -23,7 +23,7 @@ movedOf m w h =
       t = elapsedOf (readingOf h) (masters.judged m w (readingOf h) .sample);
     }
 
--- "A sample is the first response that passes for each count sent, with elapsed t at most W"
+-- "with elapsed t at most W"; 01's whole sentence is `samples`
 unfoldable pub tallied : Histogram → ℕ → Bool → ℕ → Histogram
 tallied h w anew t = cond (anew && leb t w) (countedOf h w t) h
 
