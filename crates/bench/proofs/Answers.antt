@@ -27,7 +27,7 @@ use Rattle.bench.specs.Ports.{portAt, stepOf, silent}
 use Rattle.bench.specs.Calls.{callRules, responseRules, requestRules, settled, parametersAs, placed, responseAt, requestAt, clockAt, operatorAt, parametersAt}
 use Rattle.bench.specs.Images.{composeAnswer, composed, buildAnswer, responseOut, splitAnswer, handedOn, handedTo, handedOut}
 use Rattle.bench.specs.Shown.{trendOf, binsOf, masterOf, deviceOf}
-use Rattle.bench.specs.History.{Look, Compose, BuildResponse, Split, HandOn, Trend, Bins, ShowMaster, ShowDevice, Call, SetParameters, ReceiveResponse, ReceiveRequest, Clock, Operator, Looks, portOf, lookRules, rulesOf, lookAnswer, answerOf, after, history}
+use Rattle.bench.specs.History.{NoReading, Compose, BuildResponse, Split, HandOn, Trend, Bins, ShowMaster, ShowDevice, Call, SetParameters, ReceiveResponse, ReceiveRequest, Clock, Operator, WithoutReading, portOf, rulesWithoutReading, rulesOf, answerWithoutReading, answerOf, after, history}
 use Rattle.bench.proofs.Taken.{taken-is, on-buffers}
 use Rattle.bench.proofs.Index.{placed-refused}
 
@@ -47,20 +47,20 @@ response-length p s = cond-case (λ (r : Response). r .length ≡ length s) (eqb
 request-length : (p : Params) (s : List ℕ) → requestBy byBits p s .length ≡ length s
 request-length p s = cond-case (λ (r : Request). r .length ≡ length s) (eqb (length s) (p .SPDUOutLength)) (λ _. refl) (λ _. refl)
 
-look-answer : (port : ℕ) (p : Port) (look : Look) → lookAnswer port p look ≡ answerBy Taken (lookRules port p look)
-unfolding lookAnswer lookRules trendOf binsOf masterOf deviceOf composeAnswer buildAnswer splitAnswer handedTo
-look-answer port p (Compose process other octets) =
+answer-without-reading : (port : ℕ) (p : Port) (act : NoReading) → answerWithoutReading port p act ≡ answerBy Taken (rulesWithoutReading port p act)
+unfolding answerWithoutReading rulesWithoutReading trendOf binsOf masterOf deviceOf composeAnswer buildAnswer splitAnswer handedTo
+answer-without-reading port p (Compose process other octets) =
     on-buffers (answerBy Taken (callRules port p)) (image.composerHolds (p .params) (length process) (length other) (length octets))
-look-answer port p (BuildResponse process out) =
+answer-without-reading port p (BuildResponse process out) =
     on-buffers (answerBy Taken (callRules port p)) (buffersHold (p .params .«FSP_ProtMode») (p .params .SPDUInLength) (length process) (length out))
-look-answer port p (Split octets) =
+answer-without-reading port p (Split octets) =
     on-buffers (answerBy Taken (callRules port p)) (image.splitterHolds (p .params) (length octets))
-look-answer port p (HandOn mark spdu safe out) =
+answer-without-reading port p (HandOn mark spdu safe out) =
     on-buffers (answerBy Taken (callRules port p)) (leb (length (handedOn p mark spdu safe)) (length out))
-look-answer port p Trend = refl
-look-answer port p Bins = refl
-look-answer port p ShowMaster = refl
-look-answer port p ShowDevice = refl
+answer-without-reading port p Trend = refl
+answer-without-reading port p Bins = refl
+answer-without-reading port p ShowMaster = refl
+answer-without-reading port p ShowDevice = refl
 
 pub answer-is : (b : Bench) (c : Call) → answerOf b c ≡ answerBy Taken (rulesOf (portAt b (portOf c)) c)
 unfolding answerOf rulesOf portOf placed parametersAs silent
@@ -73,7 +73,7 @@ answer-is b (ReceiveRequest port at spdu safe) =
     settled-answer p _ _ ∙ ap (λ (n : ℕ). answerBy Taken (requestRules port p n safe)) (request-length (p .params) spdu)
 answer-is b (Clock port at safeIn safeOut) = settled-answer (portAt b port) _ _
 answer-is b (Operator port at «setSD_C» «ChFAck_C» safe) = settled-answer (portAt b port) _ _
-answer-is b (Looks port look) = look-answer port (portAt b port) look
+answer-is b (WithoutReading port act) = answer-without-reading port (portAt b port) act
 
 -- ---- exactly one answer, for every call: the first rule's that is broken, and TAKEN where none is
 
@@ -82,16 +82,16 @@ Exactly rules =
     ((isTaken (answerBy Taken rules) ≡ true) ↔ Kept rules)
     × ((i : ℕ) → i < length rules → (answerBy Taken rules ≡ answerAt rules i) ↔ First rules i)
 
-look-exactly : (port : ℕ) (p : Port) (look : Look) → Exactly (lookRules port p look)
-unfolding lookRules
-look-exactly port p (Compose process other octets) = (taken-exactly _ tt tt, given-exactly _ tt tt)
-look-exactly port p (BuildResponse process out) = (taken-exactly _ tt tt, given-exactly _ tt tt)
-look-exactly port p (Split octets) = (taken-exactly _ tt tt, given-exactly _ tt tt)
-look-exactly port p (HandOn mark spdu safe out) = (taken-exactly _ tt tt, given-exactly _ tt tt)
-look-exactly port p Trend = (taken-exactly _ tt tt, given-exactly _ tt tt)
-look-exactly port p Bins = (taken-exactly _ tt tt, given-exactly _ tt tt)
-look-exactly port p ShowMaster = (taken-exactly _ tt tt, given-exactly _ tt tt)
-look-exactly port p ShowDevice = (taken-exactly _ tt tt, given-exactly _ tt tt)
+exactly-without-reading : (port : ℕ) (p : Port) (act : NoReading) → Exactly (rulesWithoutReading port p act)
+unfolding rulesWithoutReading
+exactly-without-reading port p (Compose process other octets) = (taken-exactly _ tt tt, given-exactly _ tt tt)
+exactly-without-reading port p (BuildResponse process out) = (taken-exactly _ tt tt, given-exactly _ tt tt)
+exactly-without-reading port p (Split octets) = (taken-exactly _ tt tt, given-exactly _ tt tt)
+exactly-without-reading port p (HandOn mark spdu safe out) = (taken-exactly _ tt tt, given-exactly _ tt tt)
+exactly-without-reading port p Trend = (taken-exactly _ tt tt, given-exactly _ tt tt)
+exactly-without-reading port p Bins = (taken-exactly _ tt tt, given-exactly _ tt tt)
+exactly-without-reading port p ShowMaster = (taken-exactly _ tt tt, given-exactly _ tt tt)
+exactly-without-reading port p ShowDevice = (taken-exactly _ tt tt, given-exactly _ tt tt)
 
 pub exactly : (p : Port) (c : Call) → Exactly (rulesOf p c)
 unfolding rulesOf
@@ -100,7 +100,7 @@ exactly p (ReceiveResponse port at spdu safe) = (taken-exactly _ tt tt, given-ex
 exactly p (ReceiveRequest port at spdu safe) = (taken-exactly _ tt tt, given-exactly _ tt tt)
 exactly p (Clock port at safeIn safeOut) = (taken-exactly _ tt tt, given-exactly _ tt tt)
 exactly p (Operator port at «setSD_C» «ChFAck_C» safe) = (taken-exactly _ tt tt, given-exactly _ tt tt)
-exactly p (Looks port look) = look-exactly port p look
+exactly p (WithoutReading port act) = exactly-without-reading port p act
 
 -- ---- a refused call changes nothing
 
@@ -113,7 +113,7 @@ refused-same b (ReceiveRequest port at spdu safe) e =
     let p = portAt b port in placed-refused b port (requestAt port p at (requestBy byBits (p .params) spdu) safe) e
 refused-same b (Clock port at safeIn safeOut) e = placed-refused b port (clockAt port (portAt b port) at safeIn safeOut) e
 refused-same b (Operator port at «setSD_C» «ChFAck_C» safe) e = placed-refused b port (operatorAt port (portAt b port) at «setSD_C» «ChFAck_C» safe) e
-refused-same b (Looks port look) e = refl
+refused-same b (WithoutReading port act) e = refl
 
 -- so it could be left out of the history with no difference afterwards
 pub left-out : (later : List Call) (c : Call) (past : List Call) → isTaken (answerOf (history past) c) ≡ false → history (later ++ c ∷ past) ≡ history (later ++ past)

@@ -24,7 +24,7 @@ use Rattle.bench.specs.declared.Port.{Port}
 use Rattle.bench.specs.declared.Bench.{Bench}
 use Rattle.bench.specs.Ports.{acceptedPort, newBench, portAt, stepOf, silent}
 use Rattle.bench.specs.Calls.{responseRules, requestRules, clockRules, operatorRules, settled, parametersAs, placed}
-use Rattle.bench.specs.History.{Call, SetParameters, ReceiveResponse, ReceiveRequest, Clock, Operator, Looks, portOf, rulesOf, answerOf, after, history, addressing}
+use Rattle.bench.specs.History.{Call, SetParameters, ReceiveResponse, ReceiveRequest, Clock, Operator, WithoutReading, portOf, rulesOf, answerOf, after, history, addressing}
 use Rattle.bench.proofs.Index.{placed-same, placed-other, placed-length}
 use Rattle.bench.proofs.Answers.{settled-answer, answer-is, refused-same}
 
@@ -36,7 +36,7 @@ after-length b (ReceiveResponse port at spdu safe) = placed-length b port _
 after-length b (ReceiveRequest port at spdu safe) = placed-length b port _
 after-length b (Clock port at safeIn safeOut) = placed-length b port _
 after-length b (Operator port at «setSD_C» «ChFAck_C» safe) = placed-length b port _
-after-length b (Looks port look) = refl
+after-length b (WithoutReading port act) = refl
 
 pub eight : (past : List Call) → length (history past .ports) ≡ 8
 unfolding history newBench
@@ -50,7 +50,7 @@ takenAt p (ReceiveResponse port at spdu safe) = stepOf p (happening.Response at 
 takenAt p (ReceiveRequest port at spdu safe) = stepOf p (happening.Request at (requestBy byBits (p .params) spdu)) .port
 takenAt p (Clock port at safeIn safeOut) = stepOf p (happening.Clock at) .port
 takenAt p (Operator port at «setSD_C» «ChFAck_C» safe) = stepOf p (happening.Operator at «setSD_C» «ChFAck_C») .port
-takenAt p (Looks port look) = p
+takenAt p (WithoutReading port act) = p
 
 settled-port : (p : Port) (a : Answer) (h : Happening) → isTaken (settled p a h .reply .answer) ≡ true → settled p a h .port ≡ stepOf p h .port
 unfolding settled
@@ -86,7 +86,7 @@ module _ (b : Bench) (all : length (b .ports) ≡ 8) where
   taken-at (Operator port at «setSD_C» «ChFAck_C» safe) k e =
       let p = portAt b port in
       happened-at port (answerBy Taken (operatorRules port p safe)) (happening.Operator at «setSD_C» «ChFAck_C») k e
-  taken-at (Looks port look) k e = refl
+  taken-at (WithoutReading port act) k e = refl
 
   -- a call to another port
   pub other-at : (q : ℕ) → outside 1 8 q ≡ false → (c : Call) → eqb (portOf c) q ≡ false → portAt (after b c) q ≡ portAt b q
@@ -96,7 +96,7 @@ module _ (b : Bench) (all : length (b .ports) ≡ 8) where
   other-at q k (ReceiveRequest port at spdu safe) e = placed-other b all q k port _ e
   other-at q k (Clock port at safeIn safeOut) e = placed-other b all q k port _ e
   other-at q k (Operator port at «setSD_C» «ChFAck_C» safe) e = placed-other b all q k port _ e
-  other-at q k (Looks port look) e = refl
+  other-at q k (WithoutReading port act) e = refl
 
 -- ---- what a call does to its port depends on that port alone
 answers-same : (b d : Bench) (c : Call) → portAt b (portOf c) ≡ portAt d (portOf c) → answerOf b c ≡ answerOf d c

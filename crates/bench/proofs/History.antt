@@ -30,7 +30,7 @@ use Rattle.samples.specs.Samples.{samples, histogramAfter}
 use Rattle.samples.proofs.Counted.{samples-within, samples-held}
 use Rattle.bench.specs.declared.Port.{Port}
 use Rattle.bench.specs.Ports.{newPort, acceptedPort, portAt, stepOf}
-use Rattle.bench.specs.History.{Call, SetParameters, ReceiveResponse, ReceiveRequest, Clock, Operator, Looks, portOf, rulesOf, answerOf, after, history, Since, never, since, goesOn, extended, sinceBlock, StandsSince, Stands}
+use Rattle.bench.specs.History.{Call, SetParameters, ReceiveResponse, ReceiveRequest, Clock, Operator, WithoutReading, portOf, rulesOf, answerOf, after, history, Since, never, since, goesOn, extended, sinceBlock, StandsSince, Stands}
 use Rattle.bench.proofs.Index.{new-at}
 use Rattle.bench.proofs.Answers.{answer-is, exactly, refused-same}
 use Rattle.bench.proofs.AtPort.{eight, takenAt, taken-at, other-at}
@@ -88,7 +88,7 @@ taken-stands p s (ReceiveResponse port at spdu safe) k z = goes-stands p (λ q. 
 taken-stands p s (ReceiveRequest port at spdu safe) k z = goes-stands p (λ q. happening.Request at (requestBy byBits q spdu)) s (not-false (p .running) (k .each 1)) z
 taken-stands p s (Clock port at safeIn safeOut) k z = goes-stands p (λ q. happening.Clock at) s (not-false (p .running) (k .each 1)) z
 taken-stands p s (Operator port at «setSD_C» «ChFAck_C» safe) k z = goes-stands p (λ q. happening.Operator at «setSD_C» «ChFAck_C») s (not-false (p .running) (k .each 1)) z
-taken-stands p s (Looks port look) k z = z
+taken-stands p s (WithoutReading port act) k z = z
 
 -- ---- every history
 

@@ -42,7 +42,7 @@ use Rattle.bench.specs.declared.Port.{Port}
 use Rattle.bench.specs.Ports.{newPort, portAt}
 use Rattle.bench.specs.Calls.{placed, parametersAs}
 use Rattle.bench.specs.Ports.{silent}
-use Rattle.bench.specs.History.{Call, SetParameters, ReceiveResponse, ReceiveRequest, Clock, Operator, Looks, portOf, answerOf, history, Since, never, since, goesOn, extended, sinceBlock, Stands, Arising, blockIn, OctetsIn, no-call, one-more}
+use Rattle.bench.specs.History.{Call, SetParameters, ReceiveResponse, ReceiveRequest, Clock, Operator, WithoutReading, portOf, answerOf, history, Since, never, since, goesOn, extended, sinceBlock, Stands, Arising, blockIn, OctetsIn, no-call, one-more}
 use Rattle.samples.specs.Samples.{Previous, previousBy, lastTaken}
 use Rattle.samples.proofs.Samples.{previous-is}
 use Rattle.bench.proofs.History.{stands}
@@ -183,7 +183,7 @@ extended-sound q past (ReceiveResponse port at spdu safe) s e t o z = goes-sound
 extended-sound q past (ReceiveRequest port at spdu safe) s e t o z = goes-sound q s (λ p. happening.Request at (requestBy byBits p spdu)) (λ p. request-read p spdu) z
 extended-sound q past (Clock port at safeIn safeOut) s e t o z = goes-sound q s (λ p. happening.Clock at) (λ p. refl) z
 extended-sound q past (Operator port at «setSD_C» «ChFAck_C» safe) s e t o z = goes-sound q s (λ p. happening.Operator at «setSD_C» «ChFAck_C») (λ p. refl) z
-extended-sound q past (Looks port look) s e t o z = z
+extended-sound q past (WithoutReading port act) s e t o z = z
 
 sounds : (q : ℕ) (past : List Call) → OctetsIn past → Sounds q (sinceBlock q past)
 unfolding sinceBlock Sounds

@@ -42,15 +42,15 @@ use Rattle.bench.specs.Shown.{trendRules, trendOf, binsOf, masterOf, dev
 -- ---- Calls
 
 -- a call without a reading, with what is lent to it
-pub data Look : Type 0 where
-  Compose : (process other octets : List ℕ) → Look
-  BuildResponse : (process out : List ℕ) → Look
-  Split : (octets : List ℕ) → Look
-  HandOn : (mark : Mark) (spdu safe out : List ℕ) → Look
-  Trend : Look
-  Bins : Look
-  ShowMaster : Look
-  ShowDevice : Look
+pub data NoReading : Type 0 where
+  Compose : (process other octets : List ℕ) → NoReading
+  BuildResponse : (process out : List ℕ) → NoReading
+  Split : (octets : List ℕ) → NoReading
+  HandOn : (mark : Mark) (spdu safe out : List ℕ) → NoReading
+  Trend : NoReading
+  Bins : NoReading
+  ShowMaster : NoReading
+  ShowDevice : NoReading
 
 -- every call
 pub data Call : Type 0 where
@@ -59,7 +59,7 @@ pub data Call : Type 0 where
   ReceiveRequest : (port at : ℕ) (spdu safe : List ℕ) → Call
   Clock : (port at : ℕ) (safeIn safeOut : List ℕ) → Call
   Operator : (port at : ℕ) («setSD_C» «ChFAck_C» : Bool) (safe : List ℕ) → Call
-  Looks : (port : ℕ) (look : Look) → Call
+  WithoutReading : (port : ℕ) (act : NoReading) → Call
 
 -- the port addressed
 unfoldable pub portOf : Call → ℕ
@@ -68,7 +68,7 @@ portOf (ReceiveResponse port at spdu safe) = port
 portOf (ReceiveRequest port at spdu safe) = port
 portOf (Clock port at safeIn safeOut) = port
 portOf (Operator port at «setSD_C» «ChFAck_C» safe) = port
-portOf (Looks port look) = port
+portOf (WithoutReading port act) = port
 
 -- 01's table: the rules on a call in their order, p being the port addressed
 
@@ -76,16 +76,16 @@ portOf (Looks port look) = port
 abbrev pub bufferRules : ℕ → Port → Bool → List Rule
 bufferRules port p fits = calls.callRules port p ++ (rule (not fits) Buffer ∷ [])
 
-unfoldable pub lookRules : ℕ → Port → Look → List Rule
-lookRules port p (Compose process other octets) = bufferRules port p (image.composerHolds (p .params) (length process) (length other) (length octets))
-lookRules port p (BuildResponse process out) =
+unfoldable pub rulesWithoutReading : ℕ → Port → NoReading → List Rule
+rulesWithoutReading port p (Compose process other octets) = bufferRules port p (image.composerHolds (p .params) (length process) (length other) (length octets))
+rulesWithoutReading port p (BuildResponse process out) =
     bufferRules port p (buffersHold (p .params .«FSP_ProtMode») (p .params .SPDUInLength) (length process) (length out))
-lookRules port p (Split octets) = bufferRules port p (image.splitterHolds (p .params) (length octets))
-lookRules port p (HandOn mark spdu safe out) = bufferRules port p (leb (length (handedOn p mark spdu safe)) (length out))
-lookRules port p Trend = trendRules port p
-lookRules port p Bins = calls.callRules port p
-lookRules port p ShowMaster = calls.callRules port p
-lookRules port p ShowDevice = calls.callRules port p
+rulesWithoutReading port p (Split octets) = bufferRules port p (image.splitterHolds (p .params) (length octets))
+rulesWithoutReading port p (HandOn mark spdu safe out) = bufferRules port p (leb (length (handedOn p mark spdu safe)) (length out))
+rulesWithoutReading port p Trend = trendRules port p
+rulesWithoutReading port p Bins = calls.callRules port p
+rulesWithoutReading port p ShowMaster = calls.callRules port p
+rulesWithoutReading port p ShowDevice = calls.callRules port p
 
 unfoldable pub rulesOf : Port → Call → List Rule
 rulesOf p (SetParameters port at octets) = rulesOn octets port
@@ -93,18 +93,18 @@ rulesOf p (ReceiveResponse port at spdu safe) = calls.responseRules port p (leng
 rulesOf p (ReceiveRequest port at spdu safe) = calls.requestRules port p (length spdu) safe
 rulesOf p (Clock port at safeIn safeOut) = calls.clockRules port p safeIn safeOut
 rulesOf p (Operator port at «setSD_C» «ChFAck_C» safe) = calls.operatorRules port p safe
-rulesOf p (Looks port look) = lookRules port p look
+rulesOf p (WithoutReading port act) = rulesWithoutReading port p act
 
 -- the answer that the call's contract gives
-unfoldable pub lookAnswer : ℕ → Port → Look → Answer
-lookAnswer port p (Compose process other octets) = composeAnswer port p process other octets
-lookAnswer port p (BuildResponse process out) = buildAnswer port p process out
-lookAnswer port p (Split octets) = splitAnswer port p octets
-lookAnswer port p (HandOn mark spdu safe out) = handedTo port p mark spdu safe (length out) .answer
-lookAnswer port p Trend = trendOf port p .answer
-lookAnswer port p Bins = binsOf port p .answer
-lookAnswer port p ShowMaster = masterOf port p .answer
-lookAnswer port p ShowDevice = deviceOf port p .answer
+unfoldable pub answerWithoutReading : ℕ → Port → NoReading → Answer
+answerWithoutReading port p (Compose process other octets) = composeAnswer port p process other octets
+answerWithoutReading port p (BuildResponse process out) = buildAnswer port p process out
+answerWithoutReading port p (Split octets) = splitAnswer port p octets
+answerWithoutReading port p (HandOn mark spdu safe out) = handedTo port p mark spdu safe (length out) .answer
+answerWithoutReading port p Trend = trendOf port p .answer
+answerWithoutReading port p Bins = binsOf port p .answer
+answerWithoutReading port p ShowMaster = masterOf port p .answer
+answerWithoutReading port p ShowDevice = deviceOf port p .answer
 
 unfoldable pub answerOf : Bench → Call → Answer
 answerOf b (SetParameters port at octets) = calls.setParameters b port at octets .reply .answer
@@ -112,7 +112,7 @@ answerOf b (ReceiveResponse port at spdu safe) = calls.receiveResponse b port at
 answerOf b (ReceiveRequest port at spdu safe) = calls.receiveRequest b port at spdu safe .reply .answer
 answerOf b (Clock port at safeIn safeOut) = calls.clock b port at safeIn safeOut .reply .answer
 answerOf b (Operator port at «setSD_C» «ChFAck_C» safe) = calls.operator b port at «setSD_C» «ChFAck_C» safe .reply .answer
-answerOf b (Looks port look) = lookAnswer port (portAt b port) look
+answerOf b (WithoutReading port act) = answerWithoutReading port (portAt b port) act
 
 -- the bench after the call; calls without a reading return none, so it stays (R11)
 unfoldable pub after : Bench → Call → Bench
@@ -121,7 +121,7 @@ after b (ReceiveResponse port at spdu safe) = calls.receiveResponse b port at sp
 after b (ReceiveRequest port at spdu safe) = calls.receiveRequest b port at spdu safe .bench
 after b (Clock port at safeIn safeOut) = calls.clock b port at safeIn safeOut .bench
 after b (Operator port at «setSD_C» «ChFAck_C» safe) = calls.operator b port at «setSD_C» «ChFAck_C» safe .bench
-after b (Looks port look) = b
+after b (WithoutReading port act) = b
 
 unfoldable pub history : List Call → Bench
 history [] = newBench
@@ -151,7 +151,7 @@ extended s (ReceiveResponse port at spdu safe) = goesOn s (λ params. happening.
 extended s (ReceiveRequest port at spdu safe) = goesOn s (λ params. happening.Request at (requestBy byBits params spdu))
 extended s (Clock port at safeIn safeOut) = goesOn s (λ params. happening.Clock at)
 extended s (Operator port at «setSD_C» «ChFAck_C» safe) = goesOn s (λ params. happening.Operator at «setSD_C» «ChFAck_C»)
-extended s (Looks port look) = s
+extended s (WithoutReading port act) = s
 
 -- of port q: the calls to it that were not refused, since its last accepted block
 unfoldable pub sinceBlock : ℕ → List Call → Since
@@ -202,7 +202,7 @@ blockIn (ReceiveResponse port at spdu safe) = []
 blockIn (ReceiveRequest port at spdu safe) = []
 blockIn (Clock port at safeIn safeOut) = []
 blockIn (Operator port at «setSD_C» «ChFAck_C» safe) = []
-blockIn (Looks port look) = []
+blockIn (WithoutReading port act) = []
 
 -- its elements are octets
 pub data OctetsIn : List Call → Type 0 where
