@@ -192,15 +192,35 @@ struct whakelouna_device whakelouna_device_first(uint32_t at);
 struct whakelouna_device_outcome whakelouna_device_request(struct whakelouna_device device, uint16_t w, uint32_t at, struct whakelouna_request request);
 struct whakelouna_device_outcome whakelouna_device_clock(struct whakelouna_device device, uint16_t w, uint32_t at);
 
-// The bench: ports 1 to 8, each with both its ends (document 01). `running`: parameters have been accepted.
-struct whakelouna_port {
-    bool running;
+// What only an accepted parameter block moves. `running`: parameters have been accepted.
+struct whakelouna_setting {
     struct whakelouna_params params;
-    struct whakelouna_master master;
-    struct whakelouna_device device;
-    struct whakelouna_histogram histogram;
+    bool running;
 };
 
+// All of a histogram but its bins.
+struct whakelouna_totals {
+    uint64_t sum;
+    uint32_t total;
+    uint16_t lowest;
+    uint16_t highest;
+};
+
+// What a happening moves, which is a response, a request, a clock reading or operator signals: both ends, and all of the histogram but its bins.
+struct whakelouna_live {
+    struct whakelouna_device device;
+    struct whakelouna_master master;
+    struct whakelouna_totals totals;
+};
+
+// A port. A response that is counted raises one of the bins; an accepted block begins `live` and the bins anew.
+struct whakelouna_port {
+    struct whakelouna_setting setting;
+    struct whakelouna_live live;
+    uint32_t bins[32];
+};
+
+// The bench: ports 1 to 8, each with both its ends (document 01).
 struct whakelouna_bench {
     struct whakelouna_port ports[8];
 };

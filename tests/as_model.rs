@@ -75,17 +75,17 @@ pub fn device_read(d: &Device) -> DeviceModel {
 }
 
 pub fn port_read(port: &Port) -> Shown {
-    let histogram = &port.histogram;
+    let Port { setting, live, bins } = port;
     Shown {
-        running: port.running,
-        parameters: numbers(&port.params),
-        master: master_read(&port.master),
-        device: device_read(&port.device),
-        bins: histogram.bins.map(u64::from),
-        total: histogram.total.into(),
-        sum: histogram.sum,
-        lowest: histogram.lowest,
-        highest: histogram.highest,
+        running: setting.running,
+        parameters: numbers(&setting.params),
+        master: master_read(&live.master),
+        device: device_read(&live.device),
+        bins: bins.map(u64::from),
+        total: live.totals.total.into(),
+        sum: live.totals.sum,
+        lowest: live.totals.lowest,
+        highest: live.totals.highest,
     }
 }
 

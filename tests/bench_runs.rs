@@ -3,7 +3,7 @@
 
 use crate::bench_pair::{Lent, Pair};
 use crate::block_for;
-use crate::library::{self, Histogram, ReplyTold};
+use crate::library::{self, ReplyTold, Totals};
 use crate::model::bench::Reply;
 use crate::model::histogram::{Earlier, Point, LIMIT};
 use crate::model::spdu::Direction;
@@ -270,7 +270,7 @@ impl Runs<'_> {
         let port = self.port;
         let place = usize::from(port) - 1;
         self.pair.model.stop(port);
-        self.pair.bench.ports[place].running = false;
+        self.pair.bench.ports[place].setting.running = false;
         let bench = self.pair.bench;
         let refused = ReplyTold {
             number: 9,
@@ -304,14 +304,10 @@ impl Runs<'_> {
         self.start(7, W);
         let earlier = self.earlier(LIMIT - short);
         let (lowest, highest) = earlier.ends.unwrap();
-        let place = usize::from(self.port) - 1;
-        self.pair.bench.ports[place].histogram = Histogram {
-            bins: earlier.bins.map(|count| count as u32),
-            total: (LIMIT - short) as u32,
-            sum: earlier.sum,
-            lowest,
-            highest,
-        };
+        let total = (LIMIT - short) as u32;
+        let port = &mut self.pair.bench.ports[usize::from(self.port) - 1];
+        port.live.totals = Totals { sum: earlier.sum, total, lowest, highest };
+        port.bins = earlier.bins.map(|count| count as u32);
         self.pair.model.put_earlier(self.port, earlier);
         self.pair.expect_again(self.port);
         self.pair.show(self.port);

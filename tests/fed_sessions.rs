@@ -247,7 +247,8 @@ impl Feeder {
     /// The rows are the model's, as no text tells them.
     fn count(&mut self, state: &State, text: &str, run: &Run) {
         self.sessions += 1;
-        self.samples += state.bench.ports.iter().map(|p| u64::from(p.histogram.total)).sum::<u64>();
+        self.samples +=
+            state.bench.ports.iter().map(|p| u64::from(p.live.totals.total)).sum::<u64>();
         for line in text.lines().filter(|line| line.starts_with("r ")) {
             let code = line.rsplit(' ').next().and_then(|code| code.parse::<usize>().ok());
             if let Some(count) = code.and_then(|code| self.codes.get_mut(code)) {

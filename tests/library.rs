@@ -338,15 +338,40 @@ pub struct DeviceOutcome {
     pub mark: u8,
 }
 
+/// What only an accepted block moves.
+#[repr(C)]
+#[derive(Clone, Copy, Debug, PartialEq)]
+pub struct Setting {
+    pub params: Params,
+    pub running: bool,
+}
+
+/// All of a histogram but its bins.
+#[repr(C)]
+#[derive(Clone, Copy, Debug, PartialEq)]
+pub struct Totals {
+    pub sum: u64,
+    pub total: u32,
+    pub lowest: u16,
+    pub highest: u16,
+}
+
+/// What a happening moves.
+#[repr(C)]
+#[derive(Clone, Copy, Debug, PartialEq)]
+pub struct Live {
+    pub device: Device,
+    pub master: Master,
+    pub totals: Totals,
+}
+
 /// A port with both its ends.
 #[repr(C)]
 #[derive(Clone, Copy, Debug, PartialEq)]
 pub struct Port {
-    pub running: bool,
-    pub params: Params,
-    pub master: Master,
-    pub device: Device,
-    pub histogram: Histogram,
+    pub setting: Setting,
+    pub live: Live,
+    pub bins: [u32; 32],
 }
 
 /// Ports 1 to 8.

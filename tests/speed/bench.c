@@ -10,7 +10,7 @@ typedef struct whakelouna_port port_t;
 typedef struct whakelouna_params params_t;
 typedef struct whakelouna_master master_t;
 typedef struct whakelouna_device device_t;
-typedef struct whakelouna_histogram histogram_t;
+typedef struct whakelouna_totals totals_t;
 typedef struct whakelouna_reply reply_t;
 
 enum { FRESH, GOES_ON, SAFE, NOTHING };
@@ -154,8 +154,8 @@ void reference_new_bench(bench_t *bench)
 {
     memset(bench, 0, sizeof *bench);
     for (int i = 0; i < 8; i++) {
-        bench->ports[i].master = first_master(0);
-        bench->ports[i].device = first_device(0);
+        bench->ports[i].live.master = first_master(0);
+        bench->ports[i].live.device = first_device(0);
     }
 }
 
@@ -170,11 +170,12 @@ reply_t reference_set_parameters(bench_t *bench, uint8_t port, uint32_t at, cons
     uint8_t answer = judge_block(octets, length, port, &offset);
     if (answer == TAKEN) {
         port_t *p = &bench->ports[port - 1];
-        p->running = true;
-        p->params = params_of(octets);
-        p->master = first_master(at);
-        p->device = first_device(at);
-        memset(&p->histogram, 0, sizeof p->histogram);
+        p->setting.params = params_of(octets);
+        p->setting.running = true;
+        p->live.totals = (totals_t) { 0 };
+        p->live.device = first_device(at);
+        p->live.master = first_master(at);
+        memset(p->bins, 0, sizeof p->bins);
     }
     return silent(answer, offset);
 }
@@ -278,17 +279,19 @@ static void judge_master(master_t *m, uint16_t w, uint32_t at)
     send_count(m, 0, at);
 }
 
-static void tally(histogram_t *h, uint16_t w, uint32_t t)
+static void tally(port_t *p, uint32_t t)
 {
-    if (h->total == UINT32_MAX || t > w)
+    uint16_t w = p->setting.params.FSP_WatchdogTime;
+    totals_t *totals = &p->live.totals;
+    if (totals->total == UINT32_MAX || t > w)
         return;
-    h->bins[t * 32 / (w + 1u)]++;
-    if (h->total == 0 || t < h->lowest)
-        h->lowest = (uint16_t)t;
-    if (h->total == 0 || t > h->highest)
-        h->highest = (uint16_t)t;
-    h->total++;
-    h->sum += t;
+    p->bins[t * 32 / (w + 1u)]++;
+    if (totals->total == 0 || t < totals->lowest)
+        totals->lowest = (uint16_t)t;
+    if (totals->total == 0 || t > totals->highest)
+        totals->highest = (uint16_t)t;
+    totals->total++;
+    totals->sum += t;
 }
 
 // What follows a check: T4, T7, T11, T12, T13.
@@ -318,8 +321,9 @@ static void act_on_response(master_t *m, bool faults, bool sd_set, uint32_t at)
 
 static uint8_t take_response(port_t *p, uint32_t at, const uint8_t *spdu)
 {
-    master_t *m = &p->master;
-    struct read r = read_spdu(&p->params, spdu, p->params.SPDUInLength);
+    const params_t *params = &p->setting.params;
+    master_t *m = &p->live.master;
+    struct read r = read_spdu(params, spdu, params->SPDUInLength);
     uint8_t count = r.control >> 5;
     uint8_t awaited = 7 - m->MCount;
     bool old = m->previous && (count == m->carried || count == m->awaited);
@@ -332,7 +336,7 @@ static uint8_t take_response(port_t *p, uint32_t at, const uint8_t *spdu)
     m->awaited = awaited;
     bool passes = r.signature && r.port && expected;
     if (passes && !old)
-        tally(&p->histogram, p->params.FSP_WatchdogTime, at - m->sample);
+        tally(p, at - m->sample);
     act_on_response(m, !passes || r.control & 3, r.control & 4, at);
     return mark(true, m->released);
 }
@@ -412,8 +416,9 @@ static void act_after_fault(device_t *d, bool error)
 
 static uint8_t take_request(port_t *p, uint32_t at, const uint8_t *spdu)
 {
-    device_t *d = &p->device;
-    struct read r = read_spdu(&p->params, spdu, p->params.SPDUOutLength);
+    const params_t *params = &p->setting.params;
+    device_t *d = &p->live.device;
+    struct read r = read_spdu(params, spdu, params->SPDUOutLength);
     uint8_t count = r.control >> 5;
     if (r.zeros || (d->state != 21 && count == d->MCount))
         return mark(false, d->released);
@@ -436,7 +441,7 @@ static uint8_t call_answer(const bench_t *bench, uint8_t port)
 {
     if (port == 0 || port > 8)
         return NO_PORT;
-    return bench->ports[port - 1].running ? TAKEN : NOT_RUNNING;
+    return bench->ports[port - 1].setting.running ? TAKEN : NOT_RUNNING;
 }
 
 static bool safe_holds(const params_t *params, uint8_t spdu_length, const uint8_t *safe, size_t length)
@@ -446,13 +451,14 @@ static bool safe_holds(const params_t *params, uint8_t spdu_length, const uint8_
 
 static void judge(port_t *p, uint32_t at)
 {
-    judge_master(&p->master, p->params.FSP_WatchdogTime, at);
-    judge_device(&p->device, p->params.FSP_WatchdogTime, at);
+    uint16_t w = p->setting.params.FSP_WatchdogTime;
+    judge_master(&p->live.master, w, at);
+    judge_device(&p->live.device, w, at);
 }
 
 static reply_t replied(const port_t *p, uint8_t master, uint8_t device)
 {
-    return (reply_t) { TAKEN, 0, master, device, p->master.released, p->device.released };
+    return (reply_t) { TAKEN, 0, master, device, p->live.master.released, p->live.device.released };
 }
 
 reply_t reference_receive_response(bench_t *bench, uint8_t port, uint32_t at, const uint8_t *spdu, size_t length, const uint8_t *safe, size_t safe_length)
@@ -461,13 +467,14 @@ reply_t reference_receive_response(bench_t *bench, uint8_t port, uint32_t at, co
     if (answer != TAKEN)
         return silent(answer, 0);
     port_t *p = &bench->ports[port - 1];
-    if (length != p->params.SPDUInLength)
+    const params_t *params = &p->setting.params;
+    if (length != params->SPDUInLength)
         return silent(SPDU_LENGTH, 0);
-    if (!safe_holds(&p->params, p->params.SPDUInLength, safe, safe_length))
+    if (!safe_holds(params, params->SPDUInLength, safe, safe_length))
         return silent(BUFFER, 0);
     judge(p, at);
     uint8_t master = take_response(p, at, spdu);
-    return replied(p, master, mark(false, p->device.released));
+    return replied(p, master, mark(false, p->live.device.released));
 }
 
 reply_t reference_receive_request(bench_t *bench, uint8_t port, uint32_t at, const uint8_t *spdu, size_t length, const uint8_t *safe, size_t safe_length)
@@ -476,18 +483,19 @@ reply_t reference_receive_request(bench_t *bench, uint8_t port, uint32_t at, con
     if (answer != TAKEN)
         return silent(answer, 0);
     port_t *p = &bench->ports[port - 1];
-    if (length != p->params.SPDUOutLength)
+    const params_t *params = &p->setting.params;
+    if (length != params->SPDUOutLength)
         return silent(SPDU_LENGTH, 0);
-    if (!safe_holds(&p->params, p->params.SPDUOutLength, safe, safe_length))
+    if (!safe_holds(params, params->SPDUOutLength, safe, safe_length))
         return silent(BUFFER, 0);
     judge(p, at);
     uint8_t device = take_request(p, at, spdu);
-    return replied(p, mark(false, p->master.released), device);
+    return replied(p, mark(false, p->live.master.released), device);
 }
 
 static reply_t quiet(const port_t *p)
 {
-    return replied(p, mark(false, p->master.released), mark(false, p->device.released));
+    return replied(p, mark(false, p->live.master.released), mark(false, p->live.device.released));
 }
 
 reply_t reference_clock(bench_t *bench, uint8_t port, uint32_t at, const uint8_t *safe_in, size_t in_length, const uint8_t *safe_out, size_t out_length)
@@ -496,7 +504,8 @@ reply_t reference_clock(bench_t *bench, uint8_t port, uint32_t at, const uint8_t
     if (answer != TAKEN)
         return silent(answer, 0);
     port_t *p = &bench->ports[port - 1];
-    if (!safe_holds(&p->params, p->params.SPDUInLength, safe_in, in_length) || !safe_holds(&p->params, p->params.SPDUOutLength, safe_out, out_length))
+    const params_t *params = &p->setting.params;
+    if (!safe_holds(params, params->SPDUInLength, safe_in, in_length) || !safe_holds(params, params->SPDUOutLength, safe_out, out_length))
         return silent(BUFFER, 0);
     judge(p, at);
     return quiet(p);
@@ -508,11 +517,11 @@ reply_t reference_operator(bench_t *bench, uint8_t port, uint32_t at, bool setSD
     if (answer != TAKEN)
         return silent(answer, 0);
     port_t *p = &bench->ports[port - 1];
-    if (!safe_holds(&p->params, p->params.SPDUInLength, safe, safe_length))
+    if (!safe_holds(&p->setting.params, p->setting.params.SPDUInLength, safe, safe_length))
         return silent(BUFFER, 0);
     judge(p, at);
-    p->master.setSD_C = setSD_C;
-    p->master.ChFAck_C = ChFAck_C;
+    p->live.master.setSD_C = setSD_C;
+    p->live.master.ChFAck_C = ChFAck_C;
     return quiet(p);
 }
 
@@ -523,12 +532,13 @@ uint8_t reference_compose(const bench_t *bench, uint8_t port, const uint8_t *pro
     if (answer != TAKEN)
         return answer;
     const port_t *p = &bench->ports[port - 1];
-    size_t spdu = p->params.SPDUOutLength;
-    if (process_length + safety_octets(p->params.FSP_ProtMode) != spdu || other_length != p->params.OutputDataLength || length != spdu + other_length)
+    const params_t *params = &p->setting.params;
+    size_t spdu = params->SPDUOutLength;
+    if (process_length + safety_octets(params->FSP_ProtMode) != spdu || other_length != params->OutputDataLength || length != spdu + other_length)
         return BUFFER;
-    const master_t *m = &p->master;
+    const master_t *m = &p->live.master;
     uint8_t control = (uint8_t)(m->MCount << 5 | m->setSD << 1 | m->ChFAckReq);
-    write_spdu(&p->params, m->setSD ? zeros : process, process_length, control, octets);
+    write_spdu(params, m->setSD ? zeros : process, process_length, control, octets);
     memcpy(octets + spdu, other, other_length);
     return TAKEN;
 }
@@ -539,16 +549,17 @@ uint8_t reference_build_response(const bench_t *bench, uint8_t port, const uint8
     if (answer != TAKEN)
         return answer;
     const port_t *p = &bench->ports[port - 1];
-    size_t spdu = p->params.SPDUInLength;
-    if (process_length + safety_octets(p->params.FSP_ProtMode) != spdu || out_length != spdu)
+    const params_t *params = &p->setting.params;
+    size_t spdu = params->SPDUInLength;
+    if (process_length + safety_octets(params->FSP_ProtMode) != spdu || out_length != spdu)
         return BUFFER;
-    const device_t *d = &p->device;
+    const device_t *d = &p->live.device;
     if (!d->responded) {
         memset(out, 0, out_length);
         return TAKEN;
     }
     uint8_t status = (uint8_t)(d->DCount_i << 5 | d->SDset << 2 | d->DCommErr << 1 | d->DTimeout);
-    write_spdu(&p->params, process, process_length, status, out);
+    write_spdu(params, process, process_length, status, out);
     return TAKEN;
 }
 
@@ -558,7 +569,7 @@ struct whakelouna_split_told reference_split(const bench_t *bench, uint8_t port,
     uint8_t answer = call_answer(bench, port);
     if (answer != TAKEN)
         return (struct whakelouna_split_told) { answer, 0, 0 };
-    const params_t *params = &bench->ports[port - 1].params;
+    const params_t *params = &bench->ports[port - 1].setting.params;
     if (length != (size_t)params->SPDUInLength + params->InputDataLength)
         return (struct whakelouna_split_told) { BUFFER, 0, 0 };
     return (struct whakelouna_split_told) { TAKEN, params->SPDUInLength, params->InputDataLength };
@@ -569,14 +580,14 @@ struct whakelouna_trend reference_trend(const bench_t *bench, uint8_t port)
     struct whakelouna_trend trend = { call_answer(bench, port), { 0, 0, 0 } };
     if (trend.number != TAKEN)
         return trend;
-    const histogram_t *h = &bench->ports[port - 1].histogram;
-    if (h->total == 0) {
+    const totals_t *totals = &bench->ports[port - 1].live.totals;
+    if (totals->total == 0) {
         trend.number = NO_SAMPLES;
         return trend;
     }
-    trend.point.mean = (double)h->sum / h->total;
-    trend.point.lowest = h->lowest;
-    trend.point.highest = h->highest;
+    trend.point.mean = (double)totals->sum / totals->total;
+    trend.point.lowest = totals->lowest;
+    trend.point.highest = totals->highest;
     return trend;
 }
 
@@ -585,21 +596,21 @@ struct whakelouna_bins_told reference_bins(const bench_t *bench, uint8_t port)
     struct whakelouna_bins_told told = { .number = call_answer(bench, port) };
     if (told.number != TAKEN)
         return told;
-    const histogram_t *h = &bench->ports[port - 1].histogram;
-    memcpy(told.bins, h->bins, sizeof told.bins);
-    told.total = h->total;
-    told.frozen = h->total == UINT32_MAX;
+    const port_t *p = &bench->ports[port - 1];
+    memcpy(told.bins, p->bins, sizeof told.bins);
+    told.total = p->live.totals.total;
+    told.frozen = told.total == UINT32_MAX;
     return told;
 }
 
 struct whakelouna_master_told reference_master(const bench_t *bench, uint8_t port)
 {
     uint8_t answer = call_answer(bench, port);
-    return (struct whakelouna_master_told) { answer, answer == TAKEN ? bench->ports[port - 1].master : first_master(0) };
+    return (struct whakelouna_master_told) { answer, answer == TAKEN ? bench->ports[port - 1].live.master : first_master(0) };
 }
 
 struct whakelouna_device_told reference_device(const bench_t *bench, uint8_t port)
 {
     uint8_t answer = call_answer(bench, port);
-    return (struct whakelouna_device_told) { answer, answer == TAKEN ? bench->ports[port - 1].device : first_device(0) };
+    return (struct whakelouna_device_told) { answer, answer == TAKEN ? bench->ports[port - 1].live.device : first_device(0) };
 }

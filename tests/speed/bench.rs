@@ -155,7 +155,7 @@ fn lengths(params: &Params) -> Lengths {
 }
 
 fn port_lengths(bench: &Bench, port: u8) -> Lengths {
-    lengths(&bench.ports[usize::from(port) - 1].params)
+    lengths(&bench.ports[usize::from(port) - 1].setting.params)
 }
 
 fn block_for(random: &mut Random, port: u8) -> Block {

@@ -1,30 +1,28 @@
 -- Each call's answer is the number that 01's table gives, and a refused call changes nothing and writes no buffer. Assumes nothing.
 use Prim.Native.Nat.{ℕ, _<_}
-use mathlib.Core.Path.{_≡_, refl, ap, _∙_}
+use mathlib.Core.Path.{_≡_, refl, ap}
 use mathlib.Core.Logic.{_↔_}
 use mathlib.Core.Bool.{Bool, true, false, cond}
 use mathlib.Core.List.{List, [], _∷_, _++_}
-use lib.Dec.{eqb, leb}
+use lib.Dec.{leb}
 use lib.ListN.{length}
 use Rattle.answer.specs.declared.Answer.{Answer}
 use Rattle.answer.specs.declared.Answer.the-variants.{Taken}
 use Rattle.answer.specs.Answers.{isTaken}
 use Rattle.answer.specs.Rules.{Rule, answerBy, answerAt, First, Kept}
 use Rattle.answer.proofs.Exact.{given-exactly, taken-exactly}
-use Rattle.block.specs.declared.Params.{Params}
-use Rattle.scl.specs.declared.Request.{Request}
-use Rattle.scl.specs.declared.Response.{Response}
+use Rattle.block.specs.declared.Judged.{Judged}
+use Rattle.block.specs.Rules.{judged}
 use Rattle.scl.specs.declared.Mark.{Mark}
-use Rattle.spdu.specs.Signature.{byBits}
-use Rattle.spdu.specs.Fields.{responseBy, requestBy}
 use Rattle.spdu.specs.Built.{builtAs, buffersHold}
 use Rattle.spdu.specs.Image as image
 use Rattle.scl.specs.declared.Happening.{Happening}
-use Rattle.scl.proofs.Cases.{cond-case, no}
+use Rattle.scl.proofs.Cases.{no}
 use Rattle.bench.specs.declared.Port.{Port}
 use Rattle.bench.specs.declared.Bench.{Bench}
-use Rattle.bench.specs.Ports.{portAt, stepOf, silent}
-use Rattle.bench.specs.Calls.{callRules, responseRules, requestRules, settled, parametersAs, placed, responseAt, requestAt, clockAt, operatorAt, parametersAt}
+use Rattle.bench.specs.declared.Act.the-variants.{Refused, Accepted, Happens}
+use Rattle.bench.specs.Ports.{portAt, stepOf, stored, silent}
+use Rattle.bench.specs.Calls.{callRules, asked, askedByBlock, done, placed, responseAt, requestAt, clockAt, operatorAt, parametersAt}
 use Rattle.bench.specs.Images.{composeAnswer, composed, buildAnswer, responseOut, splitAnswer, handedOn, handedTo, handedOut}
 use Rattle.bench.specs.Shown.{trendOf, binsOf, masterOf, deviceOf}
 use Rattle.bench.specs.History.{NoReading, Compose, BuildResponse, Split, HandOn, Trend, Bins, ShowMaster, ShowDevice, Call, SetParameters, ReceiveResponse, ReceiveRequest, Clock, Operator, WithoutReading, portOf, rulesWithoutReading, rulesOf, answerWithoutReading, answerOf, after, history}
@@ -33,46 +31,44 @@ use Rattle.bench.proofs.Index.{placed-refused}
 
 -- ---- the answer
 
-pub settled-answer : (p : Port) (a : Answer) (h : Happening) → settled p a h .reply .answer ≡ a
-unfolding settled stepOf silent
-settled-answer p a h = go (isTaken a) refl
+pub asked-answer : (p : Port) (at : ℕ) (a : Answer) (h : Happening) → done p at (asked a h) .reply .answer ≡ a
+unfolding done asked stepOf stored silent
+asked-answer p at a h = go (isTaken a) refl
   where
-    go : (b : Bool) → isTaken a ≡ b → cond b (stepOf p h) (record { port = p; reply = silent a }) .reply .answer ≡ a
+    go : (b : Bool) → isTaken a ≡ b → done p at (cond b (Happens h) (Refused a)) .reply .answer ≡ a
     go true e = taken-is a e
     go false e = refl
 
-pub response-length : (p : Params) (s : List ℕ) → responseBy byBits p s .length ≡ length s
-response-length p s = cond-case (λ (r : Response). r .length ≡ length s) (eqb (length s) (p .SPDUInLength)) (λ _. refl) (λ _. refl)
-
-request-length : (p : Params) (s : List ℕ) → requestBy byBits p s .length ≡ length s
-request-length p s = cond-case (λ (r : Request). r .length ≡ length s) (eqb (length s) (p .SPDUOutLength)) (λ _. refl) (λ _. refl)
+pub block-answer : (p : Port) (at : ℕ) (j : Judged) → done p at (askedByBlock j) .reply .answer ≡ j .answer
+unfolding done askedByBlock silent
+block-answer p at j = go (isTaken (j .answer)) refl
+  where
+    go : (b : Bool) → isTaken (j .answer) ≡ b → done p at (cond b (Accepted (j .params)) (Refused (j .answer))) .reply .answer ≡ j .answer
+    go true e = taken-is (j .answer) e
+    go false e = refl
 
 answer-without-reading : (port : ℕ) (p : Port) (act : NoReading) → answerWithoutReading port p act ≡ answerBy Taken (rulesWithoutReading port p act)
 unfolding answerWithoutReading rulesWithoutReading trendOf binsOf masterOf deviceOf composeAnswer buildAnswer splitAnswer handedTo
 answer-without-reading port p (Compose process other octets) =
-    on-buffers (answerBy Taken (callRules port p)) (image.composerHolds (p .params) (length process) (length other) (length octets))
+    on-buffers (answerBy Taken (callRules port (p .setting))) (image.composerHolds (p .setting .params) (length process) (length other) (length octets))
 answer-without-reading port p (BuildResponse process out) =
-    on-buffers (answerBy Taken (callRules port p)) (buffersHold (p .params .«FSP_ProtMode») (p .params .SPDUInLength) (length process) (length out))
+    on-buffers (answerBy Taken (callRules port (p .setting))) (buffersHold (p .setting .params .«FSP_ProtMode») (p .setting .params .SPDUInLength) (length process) (length out))
 answer-without-reading port p (Split octets) =
-    on-buffers (answerBy Taken (callRules port p)) (image.splitterHolds (p .params) (length octets))
+    on-buffers (answerBy Taken (callRules port (p .setting))) (image.splitterHolds (p .setting .params) (length octets))
 answer-without-reading port p (HandOn mark spdu safe out) =
-    on-buffers (answerBy Taken (callRules port p)) (leb (length (handedOn p mark spdu safe)) (length out))
+    on-buffers (answerBy Taken (callRules port (p .setting))) (leb (length (handedOn p mark spdu safe)) (length out))
 answer-without-reading port p Trend = refl
 answer-without-reading port p Bins = refl
 answer-without-reading port p ShowMaster = refl
 answer-without-reading port p ShowDevice = refl
 
 pub answer-is : (b : Bench) (c : Call) → answerOf b c ≡ answerBy Taken (rulesOf (portAt b (portOf c)) c)
-unfolding answerOf rulesOf portOf placed parametersAs silent
-answer-is b (SetParameters port at octets) = refl
-answer-is b (ReceiveResponse port at spdu safe) =
-    let p = portAt b port in
-    settled-answer p _ _ ∙ ap (λ (n : ℕ). answerBy Taken (responseRules port p n safe)) (response-length (p .params) spdu)
-answer-is b (ReceiveRequest port at spdu safe) =
-    let p = portAt b port in
-    settled-answer p _ _ ∙ ap (λ (n : ℕ). answerBy Taken (requestRules port p n safe)) (request-length (p .params) spdu)
-answer-is b (Clock port at safeIn safeOut) = settled-answer (portAt b port) _ _
-answer-is b (Operator port at «setSD_C» «ChFAck_C» safe) = settled-answer (portAt b port) _ _
+unfolding answerOf rulesOf portOf placed
+answer-is b (SetParameters port at octets) = block-answer (portAt b port) at (judged octets port)
+answer-is b (ReceiveResponse port at spdu safe) = asked-answer (portAt b port) at _ _
+answer-is b (ReceiveRequest port at spdu safe) = asked-answer (portAt b port) at _ _
+answer-is b (Clock port at safeIn safeOut) = asked-answer (portAt b port) at _ _
+answer-is b (Operator port at «setSD_C» «ChFAck_C» safe) = asked-answer (portAt b port) at _ _
 answer-is b (WithoutReading port act) = answer-without-reading port (portAt b port) act
 
 -- ---- exactly one answer, for every call: the first rule's that is broken, and TAKEN where none is
@@ -108,9 +104,9 @@ pub refused-same : (b : Bench) (c : Call) → isTaken (answerOf b c) ≡ false �
 unfolding after answerOf placed
 refused-same b (SetParameters port at octets) e = placed-refused b port (parametersAt port (portAt b port) at octets) e
 refused-same b (ReceiveResponse port at spdu safe) e =
-    let p = portAt b port in placed-refused b port (responseAt port p at (responseBy byBits (p .params) spdu) safe) e
+    placed-refused b port (responseAt port (portAt b port) at spdu safe) e
 refused-same b (ReceiveRequest port at spdu safe) e =
-    let p = portAt b port in placed-refused b port (requestAt port p at (requestBy byBits (p .params) spdu) safe) e
+    placed-refused b port (requestAt port (portAt b port) at spdu safe) e
 refused-same b (Clock port at safeIn safeOut) e = placed-refused b port (clockAt port (portAt b port) at safeIn safeOut) e
 refused-same b (Operator port at «setSD_C» «ChFAck_C» safe) e = placed-refused b port (operatorAt port (portAt b port) at «setSD_C» «ChFAck_C» safe) e
 refused-same b (WithoutReading port act) e = refl
@@ -134,14 +130,14 @@ unwritten a hold written octets = go (isTaken a) hold
 pub compose-refused : (port : ℕ) (p : Port) (process other octets : List ℕ) → isTaken (composeAnswer port p process other octets) ≡ false → composed port p process other octets ≡ octets
 unfolding composeAnswer composed
 compose-refused port p process other octets e =
-    unwritten (answerBy Taken (callRules port p)) (image.composerHolds (p .params) (length process) (length other) (length octets)) _ octets e
+    unwritten (answerBy Taken (callRules port (p .setting))) (image.composerHolds (p .setting .params) (length process) (length other) (length octets)) _ octets e
 
 pub build-refused : (port : ℕ) (p : Port) (process out : List ℕ) → isTaken (buildAnswer port p process out) ≡ false → responseOut port p process out ≡ out
 unfolding buildAnswer responseOut
 build-refused port p process out e =
-    unwritten (answerBy Taken (callRules port p)) (buffersHold (p .params .«FSP_ProtMode») (p .params .SPDUInLength) (length process) (length out)) _ out e
+    unwritten (answerBy Taken (callRules port (p .setting))) (buffersHold (p .setting .params .«FSP_ProtMode») (p .setting .params .SPDUInLength) (length process) (length out)) _ out e
 
 pub handed-refused : (port : ℕ) (p : Port) (mark : Mark) (spdu safe out : List ℕ) → isTaken (handedTo port p mark spdu safe (length out) .answer) ≡ false → handedOut port p mark spdu safe out ≡ out
 unfolding handedTo handedOut
 handed-refused port p mark spdu safe out e =
-    unwritten (answerBy Taken (callRules port p)) (leb (length (handedOn p mark spdu safe)) (length out)) _ out e
+    unwritten (answerBy Taken (callRules port (p .setting))) (leb (length (handedOn p mark spdu safe)) (length out)) _ out e

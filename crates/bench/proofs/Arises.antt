@@ -24,6 +24,7 @@ use Rattle.scl.specs.declared.Happening.{Happening}
 use Rattle.scl.specs.declared.Happening.the-variants as happening
 use Rattle.fs_master.specs.Table38 as table38
 use Rattle.fs_master.specs.Calls as masters
+use Rattle.fs_master.specs.Regular as regularMasters
 use Rattle.fs_master.specs.History as masterSpecs
 use Rattle.fs_master.specs.History.{masterAfter, judgedIn, passesBy, hasPassed, signals, HoldsSignals, None, fault}
 use Rattle.fs_device.specs.Table40 as table40
@@ -33,16 +34,18 @@ use Rattle.fs_device.specs.History.{deviceAfter, passedSince, hadErrorOrTimeout
 use Rattle.histogram.specs.Samples.{limit, sumOf, lowestOf, highestOf}
 use Rattle.histogram.specs.Counted as counted
 use Rattle.histogram.specs.Trends.{Shows}
-use Rattle.samples.specs.Tallied.{tallied}
+use Rattle.samples.specs.Tallied.{talliedBy}
 use Rattle.samples.specs.Samples.{oldBy, sentSince, answered, timeOf, isSample, samples}
 use Rattle.bench.specs.declared.Port.{Port}
-use Rattle.bench.specs.Ports.{newPort, acceptedPort, newBench, noPort, portAt, withPort, stepOf, silent}
+use Rattle.bench.specs.Ports.{newPort, acceptedPort, newBench, noPort, portAt, withPort, turnOf, stored, stepOf, silent}
+use Rattle.bench.specs.Regular.{isRegular, regularOf}
 use Rattle.bench.specs.Calls as calls
 use Rattle.bench.specs.Images.{composeAnswer, composed, buildAnswer, responseOut, handedTo, handedOut}
 use Rattle.bench.specs.Shown.{trendOf, binsOf}
 use Rattle.bench.specs.History.{Call, SetParameters, ReceiveResponse, ReceiveRequest, Clock, portOf, answerOf, after, history, addressing, goesOn, extended, since, sinceBlock, StandsSince, Stands, Arising, blockIn, OctetsIn, no-call, one-more}
 use Rattle.bench.proofs.Answers.{refused-same, left-out, compose-refused, build-refused, handed-refused}
 use Rattle.bench.proofs.AtPort.{eight, takenAt, taken-at, other-at, others}
+use Rattle.bench.proofs.Regulars.{regular-turn}
 use Rattle.bench.proofs.History.{stands}
 use Rattle.bench.proofs.Release.{passed-first, acknowledged, signals-hold, cycles-first, after-error}
 use Rattle.bench.proofs.Showing.{frozen-shown, trend-answer, trend-shown}
@@ -113,16 +116,16 @@ refused = Clock 2 0 [] []
 -- what the theorems ask of the calls
 record Asked : Type 0 where
   block : sinceBlock 1 worked ≡ since 1000 (paramsOf good) past
-  runs : port .running ≡ true
-  master-releases : port .master .released ≡ true
-  device-releases : port .device .released ≡ true
+  runs : port .setting .running ≡ true
+  master-releases : port .live .master .released ≡ true
+  device-releases : port .live .device .released ≡ true
   had-error : hadErrorOrTimeout 1000 100 past ≡ true
   last-taken : isTaken (answerOf (history earlier) (ReceiveRequest 1 1070 request safe)) ≡ true
   clock-refused : isTaken (answerOf newBench refused) ≡ false
   one-sample : samples 1000 100 past ≡ 10 ∷ []
 
 asked : Asked
-unfolding hadErrorOrTimeout deviceAfter samples isSample timeOf sentSince answered oldBy masterAfter judgedIn passesBy sinceBlock extended goesOn portOf answerOf after history calls.placed calls.settled calls.parametersAs portAt withPort newBench newPort noPort acceptedPort stepOf tallied silent signing.signature signing.octet signing.shiftInAll signing.shiftIn elapsedOf table38.watchdogRow table38.isOld table38.isTaken table38.checked table38.from8 table38.arrivalRow table38.taken table38.sampleFrom table38.t4 table38.acted masters.judged masters.quiet masters.arrived masters.received masters.watched masters.stepOf table40.watchdogRow table40.isTaken table40.checked table40.arrivalRow table40.taken table40.t22 table40.t25 table40.t28 table40.t29 table40.acted devices.judged devices.quiet devices.arrived devices.received devices.watched devices.stepOf counted.frozenOf counted.withSample counted.countedOf
+unfolding hadErrorOrTimeout deviceAfter samples isSample timeOf sentSince answered oldBy masterAfter judgedIn passesBy sinceBlock extended goesOn portOf answerOf after history calls.placed calls.asked calls.askedByBlock calls.done portAt withPort newBench newPort noPort acceptedPort turnOf stored stepOf talliedBy silent signing.signature signing.octet signing.shiftInAll signing.shiftIn elapsedOf table38.watchdogRow table38.isOld table38.isTaken table38.checked table38.from8 table38.arrivalRow table38.taken table38.sampleFrom table38.t4 table38.acted masters.judged masters.quiet masters.arrived masters.received masters.watched masters.stepOf table40.watchdogRow table40.isTaken table40.checked table40.arrivalRow table40.taken table40.t22 table40.t25 table40.t28 table40.t29 table40.acted devices.judged devices.quiet devices.arrived devices.received devices.watched devices.stepOf counted.frozenOf counted.withSample counted.countedOf counted.totalledOf
 asked = record {
   block = refl;
   runs = refl;
@@ -160,7 +163,7 @@ cycles-first-met = cycles-first 1 refl worked 1000 (paramsOf good) past (asked .
 pub after-error-met : 4 < passedSince 1000 100 past
 after-error-met = after-error 1 refl worked 1000 (paramsOf good) past (asked .block) (asked .had-error) (asked .device-releases)
 
-pub signals-hold-met : HoldsSignals (signals past) (port .master)
+pub signals-hold-met : HoldsSignals (signals past) (port .live .master)
 signals-hold-met = signals-hold 1 refl worked 1000 (paramsOf good) past (asked .block)
 
 stands-met : StandsSince port 1000 (paramsOf good) past
@@ -221,24 +224,24 @@ abbrev readRequest : Request
 readRequest = requestBy byBits (paramsOf good) request
 
 pub record Handed : Type 0 where
-  response-hands-on : handed (calls.responseAt 1 begun 1010 read safe .reply .master) response ≡ 0x2A ∷ []
-  request-hands-on : handed (calls.requestAt 1 before 1070 readRequest safe .reply .device) request ≡ 0x2A ∷ []
+  response-hands-on : handed (calls.responseAt 1 begun 1010 response safe .reply .master) response ≡ 0x2A ∷ []
+  request-hands-on : handed (calls.requestAt 1 before 1070 request safe .reply .device) request ≡ 0x2A ∷ []
   clock-hands-on-in : handed (calls.clockAt 1 begun 1005 safe safe .reply .master) [] ≡ safe
   clock-hands-on-out : handed (calls.clockAt 1 begun 1005 safe safe .reply .device) [] ≡ safe
   operator-hands-on : handed (calls.operatorAt 1 begun 1005 true false safe .reply .master) [] ≡ safe
-  refused-hands-on : calls.settled begun NoPort (happening.Clock 1005) .reply ≡ silent NoPort
-  master-fresh-only : masterSpecs.FreshBy (begun .master) (begun .params .«FSP_WatchdogTime») (happening.Response 1010 read)
-  device-fresh-only : deviceSpecs.FreshBy (before .device) (before .params .«FSP_WatchdogTime») (happening.Request 1070 readRequest)
+  refused-hands-on : calls.done begun 1005 (calls.asked NoPort (happening.Clock 1005)) .reply ≡ silent NoPort
+  master-fresh-only : masterSpecs.FreshBy (begun .live .master) (begun .setting .params .«FSP_WatchdogTime») (happening.Response 1010 read)
+  device-fresh-only : deviceSpecs.FreshBy (before .live .device) (before .setting .params .«FSP_WatchdogTime») (happening.Request 1070 readRequest)
 
 pub handed-met : Handed
-unfolding portOf answerOf after history calls.placed calls.settled calls.parametersAs portAt withPort newBench newPort noPort acceptedPort stepOf tallied silent signing.signature signing.octet signing.shiftInAll signing.shiftIn elapsedOf table38.watchdogRow table38.isOld table38.isTaken table38.checked table38.from8 table38.arrivalRow table38.taken table38.sampleFrom table38.t4 table38.acted masters.judged masters.quiet masters.arrived masters.received masters.watched masters.operated table38.signalled masters.stepOf table40.watchdogRow table40.isTaken table40.checked table40.arrivalRow table40.taken table40.t22 table40.t25 table40.t28 table40.t29 table40.acted devices.judged devices.quiet devices.arrived devices.received devices.watched devices.stepOf counted.frozenOf counted.withSample counted.countedOf
+unfolding portOf answerOf after history calls.placed calls.asked calls.askedByBlock calls.done portAt withPort newBench newPort noPort acceptedPort turnOf stored stepOf talliedBy silent signing.signature signing.octet signing.shiftInAll signing.shiftIn elapsedOf table38.watchdogRow table38.isOld table38.isTaken table38.checked table38.from8 table38.arrivalRow table38.taken table38.sampleFrom table38.t4 table38.acted masters.judged masters.quiet masters.arrived masters.received masters.watched masters.operated table38.signalled masters.stepOf table40.watchdogRow table40.isTaken table40.checked table40.arrivalRow table40.taken table40.t22 table40.t25 table40.t28 table40.t29 table40.acted devices.judged devices.quiet devices.arrived devices.received devices.watched devices.stepOf counted.frozenOf counted.withSample counted.countedOf counted.totalledOf
 handed-met = record {
-  response-hands-on = handing.response-hands-on 1 begun 1010 read response safe refl;
-  request-hands-on = handing.request-hands-on 1 before 1070 readRequest request safe refl;
+  response-hands-on = handing.response-hands-on 1 begun 1010 response safe refl;
+  request-hands-on = handing.request-hands-on 1 before 1070 request safe refl;
   clock-hands-on-in = handing.clock-hands-on-in 1 begun 1005 safe safe refl;
   clock-hands-on-out = handing.clock-hands-on-out 1 begun 1005 safe safe refl;
   operator-hands-on = handing.operator-hands-on 1 begun 1005 true false safe refl;
-  refused-hands-on = handing.refused-hands-on begun NoPort (happening.Clock 1005) refl;
+  refused-hands-on = handing.refused-hands-on begun 1005 NoPort (happening.Clock 1005) refl;
   master-fresh-only = handing.master-fresh-only begun (happening.Response 1010 read) refl;
   device-fresh-only = handing.device-fresh-only before (happening.Request 1070 readRequest) refl;
 }
@@ -250,3 +253,11 @@ master-fresh-if-met = handing.master-fresh-if begun 1010 read (handed-met .maste
 pub device-fresh-if-met : stepOf before (happening.Request 1070 readRequest) .reply .device ≡ Fresh
 unfolding deviceSpecs.FreshBy
 device-fresh-if-met = handing.device-fresh-if before 1070 readRequest (handed-met .device-fresh-only .0)
+
+-- ---- the response is a regular one: port 1 takes the turn that is written apart
+is-regular : isRegular (begun .setting) (begun .live) (happening.Response 1010 read) ≡ true
+unfolding isRegular regularMasters.isRegular table38.isOld devices.stands talliedBy counted.totalledOf limit elapsedOf after history calls.placed calls.askedByBlock calls.done portAt withPort newBench newPort noPort acceptedPort silent signing.signature signing.octet signing.shiftInAll signing.shiftIn
+is-regular = refl
+
+pub regular-turn-met : regularOf (begun .setting) (begun .live) (happening.Response 1010 read) ≡ turnOf (begun .setting) (begun .live) (happening.Response 1010 read)
+regular-turn-met = regular-turn (begun .setting) (begun .live) (happening.Response 1010 read) is-regular

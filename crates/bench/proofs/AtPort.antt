@@ -22,11 +22,11 @@ use Rattle.scl.specs.declared.Happening.{Happening}
 use Rattle.scl.specs.declared.Happening.the-variants as happening
 use Rattle.bench.specs.declared.Port.{Port}
 use Rattle.bench.specs.declared.Bench.{Bench}
-use Rattle.bench.specs.Ports.{acceptedPort, newBench, portAt, stepOf, silent}
-use Rattle.bench.specs.Calls.{responseRules, requestRules, clockRules, operatorRules, settled, parametersAs, placed}
+use Rattle.bench.specs.Ports.{acceptedPort, newBench, portAt, stepOf}
+use Rattle.bench.specs.Calls.{asked, askedByBlock, done, placed}
 use Rattle.bench.specs.History.{Call, SetParameters, ReceiveResponse, ReceiveRequest, Clock, Operator, WithoutReading, portOf, rulesOf, answerOf, after, history, addressing}
 use Rattle.bench.proofs.Index.{placed-same, placed-other, placed-length}
-use Rattle.bench.proofs.Answers.{settled-answer, answer-is, refused-same}
+use Rattle.bench.proofs.Answers.{asked-answer, block-answer, answer-is, refused-same}
 
 -- ---- always eight ports
 after-length : (b : Bench) (c : Call) → length (after b c .ports) ≡ length (b .ports)
@@ -46,46 +46,39 @@ eight (c ∷ past) = after-length (history past) c ∙ eight past
 -- ---- the port that a call addresses, where the call is not refused
 unfoldable pub takenAt : Port → Call → Port
 takenAt p (SetParameters port at octets) = acceptedPort p (paramsOf octets) at
-takenAt p (ReceiveResponse port at spdu safe) = stepOf p (happening.Response at (responseBy byBits (p .params) spdu)) .port
-takenAt p (ReceiveRequest port at spdu safe) = stepOf p (happening.Request at (requestBy byBits (p .params) spdu)) .port
+takenAt p (ReceiveResponse port at spdu safe) = stepOf p (happening.Response at (responseBy byBits (p .setting .params) spdu)) .port
+takenAt p (ReceiveRequest port at spdu safe) = stepOf p (happening.Request at (requestBy byBits (p .setting .params) spdu)) .port
 takenAt p (Clock port at safeIn safeOut) = stepOf p (happening.Clock at) .port
 takenAt p (Operator port at «setSD_C» «ChFAck_C» safe) = stepOf p (happening.Operator at «setSD_C» «ChFAck_C») .port
 takenAt p (WithoutReading port act) = p
 
-settled-port : (p : Port) (a : Answer) (h : Happening) → isTaken (settled p a h .reply .answer) ≡ true → settled p a h .port ≡ stepOf p h .port
-unfolding settled
-settled-port p a h e = let t : isTaken a ≡ true = sym (ap isTaken (settled-answer p a h)) ∙ e in simp t
+asked-port : (p : Port) (at : ℕ) (a : Answer) (h : Happening) → isTaken (done p at (asked a h) .reply .answer) ≡ true → done p at (asked a h) .port ≡ stepOf p h .port
+unfolding done asked
+asked-port p at a h e = let t : isTaken a ≡ true = sym (ap isTaken (asked-answer p at a h)) ∙ e in simp t
 
-accepted-port : (p : Port) (at : ℕ) (j : Judged) → isTaken (j .answer) ≡ true → parametersAs p at j .port ≡ acceptedPort p (j .params) at
-unfolding parametersAs
-accepted-port p at j e = simp e
+block-port : (p : Port) (at : ℕ) (j : Judged) → isTaken (j .answer) ≡ true → done p at (askedByBlock j) .port ≡ acceptedPort p (j .params) at
+unfolding done askedByBlock
+block-port p at j e = simp e
 
 module _ (b : Bench) (all : length (b .ports) ≡ 8) where
-  set-at : (port at : ℕ) (j : Judged) → outside 1 8 port ≡ false → isTaken (j .answer) ≡ true → portAt (placed b port (parametersAs (portAt b port) at j) .bench) port ≡ acceptedPort (portAt b port) (j .params) at
-  unfolding parametersAs silent
-  set-at port at j k e = placed-same b all port k (parametersAs (portAt b port) at j) e ∙ accepted-port (portAt b port) at j e
+  set-at : (port at : ℕ) (j : Judged) → outside 1 8 port ≡ false → isTaken (j .answer) ≡ true → portAt (placed b port (done (portAt b port) at (askedByBlock j)) .bench) port ≡ acceptedPort (portAt b port) (j .params) at
+  set-at port at j k e =
+      let p = portAt b port in
+      placed-same b all port k (done p at (askedByBlock j)) (ap isTaken (block-answer p at j) ∙ e) ∙ block-port p at j e
 
-  happened-at : (port : ℕ) (a : Answer) (h : Happening) → outside 1 8 port ≡ false → isTaken (settled (portAt b port) a h .reply .answer) ≡ true → portAt (placed b port (settled (portAt b port) a h) .bench) port ≡ stepOf (portAt b port) h .port
-  happened-at port a h k e = placed-same b all port k (settled (portAt b port) a h) e ∙ settled-port (portAt b port) a h e
+  happened-at : (port at : ℕ) (a : Answer) (h : Happening) → outside 1 8 port ≡ false → isTaken (done (portAt b port) at (asked a h) .reply .answer) ≡ true → portAt (placed b port (done (portAt b port) at (asked a h)) .bench) port ≡ stepOf (portAt b port) h .port
+  happened-at port at a h k e = placed-same b all port k (done (portAt b port) at (asked a h)) e ∙ asked-port (portAt b port) at a h e
 
   pub taken-at : (c : Call) → outside 1 8 (portOf c) ≡ false → isTaken (answerOf b c) ≡ true → portAt (after b c) (portOf c) ≡ takenAt (portAt b (portOf c)) c
-  unfolding after answerOf portOf takenAt placed parametersAs silent
+  unfolding after answerOf portOf takenAt placed
   taken-at (SetParameters port at octets) k e =
-      set-at port at (judged octets port) k e ∙ ap (λ (q : Params). acceptedPort (portAt b port) q at) (taken-params octets port e)
-  taken-at (ReceiveResponse port at spdu safe) k e =
-      let p = portAt b port in
-      let f = responseBy byBits (p .params) spdu in
-      happened-at port (answerBy Taken (responseRules port p (f .length) safe)) (happening.Response at f) k e
-  taken-at (ReceiveRequest port at spdu safe) k e =
-      let p = portAt b port in
-      let q = requestBy byBits (p .params) spdu in
-      happened-at port (answerBy Taken (requestRules port p (q .length) safe)) (happening.Request at q) k e
-  taken-at (Clock port at safeIn safeOut) k e =
-      let p = portAt b port in
-      happened-at port (answerBy Taken (clockRules port p safeIn safeOut)) (happening.Clock at) k e
-  taken-at (Operator port at «setSD_C» «ChFAck_C» safe) k e =
-      let p = portAt b port in
-      happened-at port (answerBy Taken (operatorRules port p safe)) (happening.Operator at «setSD_C» «ChFAck_C») k e
+      let j = judged octets port in
+      let t : isTaken (j .answer) ≡ true = sym (ap isTaken (block-answer (portAt b port) at j)) ∙ e in
+      set-at port at j k t ∙ ap (λ (q : Params). acceptedPort (portAt b port) q at) (taken-params octets port t)
+  taken-at (ReceiveResponse port at spdu safe) k e = happened-at port at _ _ k e
+  taken-at (ReceiveRequest port at spdu safe) k e = happened-at port at _ _ k e
+  taken-at (Clock port at safeIn safeOut) k e = happened-at port at _ _ k e
+  taken-at (Operator port at «setSD_C» «ChFAck_C» safe) k e = happened-at port at _ _ k e
   taken-at (WithoutReading port act) k e = refl
 
   -- a call to another port

@@ -24,29 +24,29 @@ pub record Copied (port : ℕ) (p : Port) (mark : Mark) (spdu safe out : List �
 
 module _ (port : ℕ) (p : Port) (mark : Mark) (spdu safe out : List ℕ) where
   -- the part has room
-  pub copied : (a : Answer) (part later : List ℕ) (n : ℕ) → a ≡ answerBy Taken (callRules port p) → isTaken a ≡ true → part ≡ handedOn p mark spdu safe
+  pub copied : (a : Answer) (part later : List ℕ) (n : ℕ) → a ≡ answerBy Taken (callRules port (p .setting)) → isTaken a ≡ true → part ≡ handedOn p mark spdu safe
       → length part ≤ length out → n ≡ length part → later ≡ take (length part) part ++ drop (length part) out
       → Copied port p mark spdu safe out (record { answer = Taken; octets = n }) later
   unfolding handedTo handedOut
   copied a part later n e t is fits count written =
-      let t′ : isTaken (answerBy Taken (callRules port p)) ≡ true = ap isTaken (sym e) ∙ t in
+      let t′ : isTaken (answerBy Taken (callRules port (p .setting))) ≡ true = ap isTaken (sym e) ∙ t in
       let f : leb (length (handedOn p mark spdu safe)) (length out) ≡ true = ap (λ (l : List ℕ). leb (length l) (length out)) (sym is) ∙ le-leb (length part) (length out) fits in
       let whole : later ≡ handedOn p mark spdu safe ++ drop (length (handedOn p mark spdu safe)) out =
       written ∙ ap (λ (l : List ℕ). l ++ drop (length part) out) (take-length part) ∙ ap (λ (l : List ℕ). l ++ drop (length l) out) is in
       record { told-is = simp (t′, f, count, is); later-is = simp (t′, f) whole }
 
   -- it has none
-  pub no-room : (a : Answer) (part : List ℕ) → a ≡ answerBy Taken (callRules port p) → isTaken a ≡ true → part ≡ handedOn p mark spdu safe
+  pub no-room : (a : Answer) (part : List ℕ) → a ≡ answerBy Taken (callRules port (p .setting)) → isTaken a ≡ true → part ≡ handedOn p mark spdu safe
       → length out < length part → Copied port p mark spdu safe out (record { answer = Buffer; octets = 0 }) out
   unfolding handedTo handedOut
   no-room a part e t is over =
-      let t′ : isTaken (answerBy Taken (callRules port p)) ≡ true = ap isTaken (sym e) ∙ t in
+      let t′ : isTaken (answerBy Taken (callRules port (p .setting))) ≡ true = ap isTaken (sym e) ∙ t in
       let f : leb (length (handedOn p mark spdu safe)) (length out) ≡ false = ap (λ (l : List ℕ). leb (length l) (length out)) (sym is) ∙ lt-leb (length part) (length out) over in
       record { told-is = simp (t′, f); later-is = simp (t′, f) }
 
   -- 8 or 9
-  pub refused : (a : Answer) → a ≡ answerBy Taken (callRules port p) → isTaken a ≡ false → Copied port p mark spdu safe out (record { answer = a; octets = 0 }) out
+  pub refused : (a : Answer) → a ≡ answerBy Taken (callRules port (p .setting)) → isTaken a ≡ false → Copied port p mark spdu safe out (record { answer = a; octets = 0 }) out
   unfolding handedTo handedOut
   refused a e t =
-      let t′ : isTaken (answerBy Taken (callRules port p)) ≡ false = ap isTaken (sym e) ∙ t in
+      let t′ : isTaken (answerBy Taken (callRules port (p .setting))) ≡ false = ap isTaken (sym e) ∙ t in
       record { told-is = simp (t′, e); later-is = simp t′ }

@@ -14,6 +14,8 @@ use Rattle.scl.specs.declared.Request.{Request}
 use Rattle.scl.specs.declared.Response.{Response}
 use Rattle.scl.specs.declared.Mark.{Mark}
 use Rattle.scl.specs.declared.Mark.the-variants.{Fresh}
+use Rattle.spdu.specs.Signature.{byBits}
+use Rattle.spdu.specs.Fields.{responseBy, requestBy}
 use Rattle.spdu.specs.Places.{processOctets, processOf, allZero}
 use Rattle.spdu.specs.Image as image
 use Rattle.scl.specs.Happenings.{markOf}
@@ -33,8 +35,8 @@ use Rattle.fs_device.specs.Calls as devices
 use Rattle.fs_device.specs.History as deviceSpecs
 use Rattle.fs_device.proofs.Release as deviceRelease
 use Rattle.bench.specs.declared.Port.{Port}
-use Rattle.bench.specs.Ports.{stepOf, silent}
-use Rattle.bench.specs.Calls.{responseRules, requestRules, clockRules, operatorRules, safeInHold, safeOutHold, settled, responseAt, requestAt, clockAt, operatorAt}
+use Rattle.bench.specs.Ports.{turnOf, stored, stepOf, silent}
+use Rattle.bench.specs.Calls.{responseRules, requestRules, clockRules, operatorRules, safeInHold, safeOutHold, asked, done, responseAt, requestAt, clockAt, operatorAt}
 use Rattle.bench.specs.History.{handsOn, octetsIn, octetsOut, responseTaken, requestTaken}
 use Rattle.answer.proofs.Exact.{taken-exactly}
 
@@ -88,87 +90,91 @@ hands {mark} row releases mode n spdu safe e s =
 
 -- ---- each call that is not refused
 
-settled-taken : (p : Port) (a : Answer) (h : Happening) → isTaken a ≡ true → settled p a h ≡ stepOf p h
-unfolding settled
-settled-taken p a h t = simp t
+asked-taken : (p : Port) (at : ℕ) (a : Answer) (h : Happening) → isTaken a ≡ true → done p at (asked a h) ≡ stepOf p h
+unfolding done asked
+asked-taken p at a h t = simp t
 
 module _ (port : ℕ) (p : Port) (at : ℕ) where
   abbrev handed : Mark → List ℕ → List ℕ → List ℕ
-  handed mark spdu safe = image.handedOn mark (p .params .«FSP_ProtMode») spdu safe
+  handed mark spdu safe = image.handedOn mark (p .setting .params .«FSP_ProtMode») spdu safe
 
-  -- an SPDU as FS-Master, f as it was read
-  pub response-hands-on : (f : Response) (spdu safe : List ℕ) → isTaken (answerBy Taken (responseRules port p (f .length) safe)) ≡ true
-      → let r = responseAt port p at f safe .reply in
-      handed (r .master) spdu safe ≡ handsOn (r .«master_releases») (responseTaken p at f) (processOf (p .params .«FSP_ProtMode») spdu) (octetsIn p)
-  unfolding stepOf
-  response-hands-on f spdu safe t =
-      let rules = responseRules port p (f .length) safe in
+  -- an SPDU as FS-Master
+  pub response-hands-on : (spdu safe : List ℕ) → isTaken (answerBy Taken (responseRules port (p .setting) (length spdu) safe)) ≡ true
+      → let r = responseAt port p at spdu safe .reply in
+      let f = responseBy byBits (p .setting .params) spdu in
+      handed (r .master) spdu safe ≡ handsOn (r .«master_releases») (responseTaken p at f) (processOf (p .setting .params .«FSP_ProtMode») spdu) (octetsIn p)
+  unfolding stepOf stored turnOf
+  response-hands-on spdu safe t =
+      let f = responseBy byBits (p .setting .params) spdu in
+      let rules = responseRules port (p .setting) (length spdu) safe in
       let kept : Kept rules = taken-exactly rules tt tt .0 t in
-      rw (settled-taken p (answerBy Taken rules) (happening.Response at f) t)
-      (hands (responseTaken p at f) (stepOf p (happening.Response at f) .reply .«master_releases») (p .params .«FSP_ProtMode») (p .params .SPDUInLength) spdu safe (response-mark (p .master) (p .params .«FSP_WatchdogTime») at f) (not-false (safeInHold (p .params) safe) (kept .each 3)))
+      rw (asked-taken p at (answerBy Taken rules) (happening.Response at f) t)
+      (hands (responseTaken p at f) (stepOf p (happening.Response at f) .reply .«master_releases») (p .setting .params .«FSP_ProtMode») (p .setting .params .SPDUInLength) spdu safe (response-mark (p .live .master) (p .setting .params .«FSP_WatchdogTime») at f) (not-false (safeInHold (p .setting .params) safe) (kept .each 3)))
 
-  -- an SPDU as FS-Device, q as it was read
-  pub request-hands-on : (q : Request) (spdu safe : List ℕ) → isTaken (answerBy Taken (requestRules port p (q .length) safe)) ≡ true
-      → let r = requestAt port p at q safe .reply in
-      handed (r .device) spdu safe ≡ handsOn (r .«device_releases») (requestTaken p at q) (processOf (p .params .«FSP_ProtMode») spdu) (octetsOut p)
-  unfolding stepOf
-  request-hands-on q spdu safe t =
-      let rules = requestRules port p (q .length) safe in
+  -- an SPDU as FS-Device
+  pub request-hands-on : (spdu safe : List ℕ) → isTaken (answerBy Taken (requestRules port (p .setting) (length spdu) safe)) ≡ true
+      → let r = requestAt port p at spdu safe .reply in
+      let q = requestBy byBits (p .setting .params) spdu in
+      handed (r .device) spdu safe ≡ handsOn (r .«device_releases») (requestTaken p at q) (processOf (p .setting .params .«FSP_ProtMode») spdu) (octetsOut p)
+  unfolding stepOf stored turnOf
+  request-hands-on spdu safe t =
+      let q = requestBy byBits (p .setting .params) spdu in
+      let rules = requestRules port (p .setting) (length spdu) safe in
       let kept : Kept rules = taken-exactly rules tt tt .0 t in
-      rw (settled-taken p (answerBy Taken rules) (happening.Request at q) t)
-      (hands (requestTaken p at q) (stepOf p (happening.Request at q) .reply .«device_releases») (p .params .«FSP_ProtMode») (p .params .SPDUOutLength) spdu safe (request-mark (p .device) (p .params .«FSP_WatchdogTime») at q) (not-false (safeOutHold (p .params) safe) (kept .each 3)))
+      rw (asked-taken p at (answerBy Taken rules) (happening.Request at q) t)
+      (hands (requestTaken p at q) (stepOf p (happening.Request at q) .reply .«device_releases») (p .setting .params .«FSP_ProtMode») (p .setting .params .SPDUOutLength) spdu safe (request-mark (p .live .device) (p .setting .params .«FSP_WatchdogTime») at q) (not-false (safeOutHold (p .setting .params) safe) (kept .each 3)))
 
   -- a clock reading, for both ends
-  module _ (safeIn safeOut : List ℕ) (t : isTaken (answerBy Taken (clockRules port p safeIn safeOut)) ≡ true) where
-    both-hold : (safeInHold (p .params) safeIn && safeOutHold (p .params) safeOut) ≡ true
+  module _ (safeIn safeOut : List ℕ) (t : isTaken (answerBy Taken (clockRules port (p .setting) safeIn safeOut)) ≡ true) where
+    both-hold : (safeInHold (p .setting .params) safeIn && safeOutHold (p .setting .params) safeOut) ≡ true
     both-hold =
-        let kept : Kept (clockRules port p safeIn safeOut) = taken-exactly (clockRules port p safeIn safeOut) tt tt .0 t in
-        not-false (safeInHold (p .params) safeIn && safeOutHold (p .params) safeOut) (kept .each 2)
+        let kept : Kept (clockRules port (p .setting) safeIn safeOut) = taken-exactly (clockRules port (p .setting) safeIn safeOut) tt tt .0 t in
+        not-false (safeInHold (p .setting .params) safeIn && safeOutHold (p .setting .params) safeOut) (kept .each 2)
 
     pub clock-hands-on-in : let r = clockAt port p at safeIn safeOut .reply in handed (r .master) [] safeIn ≡ handsOn (r .«master_releases») false [] (octetsIn p)
-    unfolding stepOf masters.stepOf masters.watched masters.quiet
+    unfolding stepOf stored turnOf masters.stepOf masters.watched masters.quiet
     clock-hands-on-in =
-        rw (settled-taken p (answerBy Taken (clockRules port p safeIn safeOut)) (happening.Clock at) t)
-        (hands false (stepOf p (happening.Clock at) .reply .«master_releases») (p .params .«FSP_ProtMode») (p .params .SPDUInLength) [] safeIn refl (and-left (safeInHold (p .params) safeIn) (safeOutHold (p .params) safeOut) both-hold))
+        rw (asked-taken p at (answerBy Taken (clockRules port (p .setting) safeIn safeOut)) (happening.Clock at) t)
+        (hands false (stepOf p (happening.Clock at) .reply .«master_releases») (p .setting .params .«FSP_ProtMode») (p .setting .params .SPDUInLength) [] safeIn refl (and-left (safeInHold (p .setting .params) safeIn) (safeOutHold (p .setting .params) safeOut) both-hold))
 
     pub clock-hands-on-out : let r = clockAt port p at safeIn safeOut .reply in handed (r .device) [] safeOut ≡ handsOn (r .«device_releases») false [] (octetsOut p)
-    unfolding stepOf devices.stepOf devices.watched devices.quiet
+    unfolding stepOf stored turnOf devices.stepOf devices.watched devices.quiet
     clock-hands-on-out =
-        rw (settled-taken p (answerBy Taken (clockRules port p safeIn safeOut)) (happening.Clock at) t)
-        (hands false (stepOf p (happening.Clock at) .reply .«device_releases») (p .params .«FSP_ProtMode») (p .params .SPDUOutLength) [] safeOut refl (and-right (safeInHold (p .params) safeIn) (safeOutHold (p .params) safeOut) both-hold))
+        rw (asked-taken p at (answerBy Taken (clockRules port (p .setting) safeIn safeOut)) (happening.Clock at) t)
+        (hands false (stepOf p (happening.Clock at) .reply .«device_releases») (p .setting .params .«FSP_ProtMode») (p .setting .params .SPDUOutLength) [] safeOut refl (and-right (safeInHold (p .setting .params) safeIn) (safeOutHold (p .setting .params) safeOut) both-hold))
 
   -- operator signals
-  pub operator-hands-on : («setSD_C» «ChFAck_C» : Bool) (safe : List ℕ) → isTaken (answerBy Taken (operatorRules port p safe)) ≡ true
+  pub operator-hands-on : («setSD_C» «ChFAck_C» : Bool) (safe : List ℕ) → isTaken (answerBy Taken (operatorRules port (p .setting) safe)) ≡ true
       → let r = operatorAt port p at «setSD_C» «ChFAck_C» safe .reply in
       handed (r .master) [] safe ≡ handsOn (r .«master_releases») false [] (octetsIn p)
-  unfolding stepOf masters.stepOf masters.operated masters.quiet
+  unfolding stepOf stored turnOf masters.stepOf masters.operated masters.quiet
   operator-hands-on «setSD_C» «ChFAck_C» safe t =
-      let rules = operatorRules port p safe in
+      let rules = operatorRules port (p .setting) safe in
       let kept : Kept rules = taken-exactly rules tt tt .0 t in
-      rw (settled-taken p (answerBy Taken rules) (happening.Operator at «setSD_C» «ChFAck_C») t)
-      (hands false (stepOf p (happening.Operator at «setSD_C» «ChFAck_C») .reply .«master_releases») (p .params .«FSP_ProtMode») (p .params .SPDUInLength) [] safe refl (not-false (safeInHold (p .params) safe) (kept .each 2)))
+      rw (asked-taken p at (answerBy Taken rules) (happening.Operator at «setSD_C» «ChFAck_C») t)
+      (hands false (stepOf p (happening.Operator at «setSD_C» «ChFAck_C») .reply .«master_releases») (p .setting .params .«FSP_ProtMode») (p .setting .params .SPDUInLength) [] safe refl (not-false (safeInHold (p .setting .params) safe) (kept .each 2)))
 
 -- ---- a refused call hands on nothing, and says that nothing is released
-pub refused-hands-on : (p : Port) (a : Answer) (h : Happening) → isTaken a ≡ false → settled p a h .reply ≡ silent a
-unfolding settled
-refused-hands-on p a h t = simp t
+pub refused-hands-on : (p : Port) (at : ℕ) (a : Answer) (h : Happening) → isTaken a ≡ false → done p at (asked a h) .reply ≡ silent a
+unfolding done asked
+refused-hands-on p at a h t = simp t
 
 -- ---- fresh octets are handed on exactly in the rows that release
 
 -- At the FS-Master: T4 and T11 under their conditions (`Releases`), and then always.
-pub master-fresh-only : (p : Port) (h : Happening) → stepOf p h .reply .master ≡ Fresh → masterSpecs.FreshBy (p .master) (p .params .«FSP_WatchdogTime») h
-unfolding stepOf
-master-fresh-only p h e = masterRelease.fresh-only (p .master) (p .params .«FSP_WatchdogTime») h e
+pub master-fresh-only : (p : Port) (h : Happening) → stepOf p h .reply .master ≡ Fresh → masterSpecs.FreshBy (p .live .master) (p .setting .params .«FSP_WatchdogTime») h
+unfolding stepOf stored turnOf
+master-fresh-only p h e = masterRelease.fresh-only (p .live .master) (p .setting .params .«FSP_WatchdogTime») h e
 
-pub master-fresh-if : (p : Port) (at : ℕ) (f : Response) → masterSpecs.Releases (masters.judged (p .master) (p .params .«FSP_WatchdogTime») at) f → stepOf p (happening.Response at f) .reply .master ≡ Fresh
-unfolding stepOf
-master-fresh-if p at f r = masterRelease.fresh-if (p .master) (p .params .«FSP_WatchdogTime») at f r
+pub master-fresh-if : (p : Port) (at : ℕ) (f : Response) → masterSpecs.Releases (masters.judged (p .live .master) (p .setting .params .«FSP_WatchdogTime») at) f → stepOf p (happening.Response at f) .reply .master ≡ Fresh
+unfolding stepOf stored turnOf
+master-fresh-if p at f r = masterRelease.fresh-if (p .live .master) (p .setting .params .«FSP_WatchdogTime») at f r
 
 -- At the FS-Device: T22 with SDcycles 0 and setSD 0, and then always.
-pub device-fresh-only : (p : Port) (h : Happening) → stepOf p h .reply .device ≡ Fresh → deviceSpecs.FreshBy (p .device) (p .params .«FSP_WatchdogTime») h
-unfolding stepOf
-device-fresh-only p h e = deviceRelease.fresh-only (p .device) (p .params .«FSP_WatchdogTime») h e
+pub device-fresh-only : (p : Port) (h : Happening) → stepOf p h .reply .device ≡ Fresh → deviceSpecs.FreshBy (p .live .device) (p .setting .params .«FSP_WatchdogTime») h
+unfolding stepOf stored turnOf
+device-fresh-only p h e = deviceRelease.fresh-only (p .live .device) (p .setting .params .«FSP_WatchdogTime») h e
 
-pub device-fresh-if : (p : Port) (at : ℕ) (q : Request) → deviceSpecs.Releases (devices.judged (p .device) (p .params .«FSP_WatchdogTime») at) q → stepOf p (happening.Request at q) .reply .device ≡ Fresh
-unfolding stepOf
-device-fresh-if p at q r = deviceRelease.fresh-if (p .device) (p .params .«FSP_WatchdogTime») at q r
+pub device-fresh-if : (p : Port) (at : ℕ) (q : Request) → deviceSpecs.Releases (devices.judged (p .live .device) (p .setting .params .«FSP_WatchdogTime») at) q → stepOf p (happening.Request at q) .reply .device ≡ Fresh
+unfolding stepOf stored turnOf
+device-fresh-if p at q r = deviceRelease.fresh-if (p .live .device) (p .setting .params .«FSP_WatchdogTime») at q r

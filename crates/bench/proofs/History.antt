@@ -25,11 +25,11 @@ use Rattle.fs_device.specs.History.{deviceAfter}
 use Rattle.histogram.specs.declared.Histogram.{Histogram}
 use Rattle.histogram.specs.Samples.{none}
 use Rattle.histogram.proofs.Counting.{cleared-holds}
-use Rattle.samples.specs.Tallied.{stepped}
+use Rattle.samples.specs.Tallied.{movedOf, stepped}
 use Rattle.samples.specs.Samples.{samples, histogramAfter}
-use Rattle.samples.proofs.Counted.{samples-within, samples-held}
+use Rattle.samples.proofs.Counted.{samples-within, samples-held, tallied-parts}
 use Rattle.bench.specs.declared.Port.{Port}
-use Rattle.bench.specs.Ports.{newPort, acceptedPort, portAt, stepOf}
+use Rattle.bench.specs.Ports.{histogramOf, newPort, acceptedPort, portAt, turnOf, stored, stepOf}
 use Rattle.bench.specs.History.{Call, SetParameters, ReceiveResponse, ReceiveRequest, Clock, Operator, WithoutReading, portOf, rulesOf, answerOf, after, history, Since, never, since, goesOn, extended, sinceBlock, StandsSince, Stands}
 use Rattle.bench.proofs.Index.{new-at}
 use Rattle.bench.proofs.Answers.{answer-is, exactly, refused-same}
@@ -38,17 +38,19 @@ use Rattle.bench.proofs.AtPort.{eight, takenAt, taken-at, other-at}
 -- ---- one happening
 
 module _ (p : Port) (at : ℕ) (params : Params) (past : List Happening) (s : StandsSince p at params past) (h : Happening) where
-  watchdog-is : p .params .«FSP_WatchdogTime» ≡ params .«FSP_WatchdogTime»
+  watchdog-is : p .setting .params .«FSP_WatchdogTime» ≡ params .«FSP_WatchdogTime»
   watchdog-is = ap (λ (q : Params). q .«FSP_WatchdogTime») (s .parameters)
 
-  histogram-is : stepOf p h .port .histogram ≡ histogramAfter at (params .«FSP_WatchdogTime») (h ∷ past)
-  unfolding stepOf histogramAfter
+  histogram-is : histogramOf (stepOf p h .port) ≡ histogramAfter at (params .«FSP_WatchdogTime») (h ∷ past)
+  unfolding stepOf stored turnOf histogramAfter
   histogram-is =
-      ap (λ (k : Histogram). stepped k (p .master) (p .params .«FSP_WatchdogTime») h) (s .histogram)
+      let m = movedOf (p .live .master) (p .setting .params .«FSP_WatchdogTime») h in
+      sym (tallied-parts (p .live .totals) (p .bins) (p .setting .params .«FSP_WatchdogTime») (m .«passes_anew») (m .t))
+      ∙ ap (λ (k : Histogram). stepped k (p .live .master) (p .setting .params .«FSP_WatchdogTime») h) (s .histogram)
       ∙ ap₂ (λ (m : Master) (w : ℕ). stepped (histogramAfter at (params .«FSP_WatchdogTime») past) m w h) (s .master) watchdog-is
 
   step-stands : StandsSince (stepOf p h .port) at params (h ∷ past)
-  unfolding stepOf masterAfter deviceAfter
+  unfolding stepOf stored turnOf masterAfter deviceAfter
   step-stands = record {
     running = s .running;
     parameters = s .parameters;
@@ -62,9 +64,9 @@ module _ (p : Port) (at : ℕ) (params : Params) (past : List Happening) (s : St
 
 -- ---- one call that is not refused
 
-goes-stands : (p : Port) (h : Params → Happening) (s : Since) → p .running ≡ true → Stands p s → Stands (stepOf p (h (p .params)) .port) (goesOn s h)
+goes-stands : (p : Port) (h : Params → Happening) (s : Since) → p .setting .running ≡ true → Stands p s → Stands (stepOf p (h (p .setting .params)) .port) (goesOn s h)
 unfolding Stands goesOn newPort
-goes-stands p h never r z = let e : true ≡ false = sym r ∙ ap (λ (q : Port). q .running) z in no e
+goes-stands p h never r z = let e : true ≡ false = sym r ∙ ap (λ (q : Port). q .setting .running) z in no e
 goes-stands p h (since at params past) r z =
     rw (ap h (z .parameters)) (step-stands p at params past z (h params))
 
@@ -84,10 +86,10 @@ taken-stands p s (SetParameters port at octets) k z = record {
   within = none;
   small = small-watchdog octets port p at k;
 }
-taken-stands p s (ReceiveResponse port at spdu safe) k z = goes-stands p (λ q. happening.Response at (responseBy byBits q spdu)) s (not-false (p .running) (k .each 1)) z
-taken-stands p s (ReceiveRequest port at spdu safe) k z = goes-stands p (λ q. happening.Request at (requestBy byBits q spdu)) s (not-false (p .running) (k .each 1)) z
-taken-stands p s (Clock port at safeIn safeOut) k z = goes-stands p (λ q. happening.Clock at) s (not-false (p .running) (k .each 1)) z
-taken-stands p s (Operator port at «setSD_C» «ChFAck_C» safe) k z = goes-stands p (λ q. happening.Operator at «setSD_C» «ChFAck_C») s (not-false (p .running) (k .each 1)) z
+taken-stands p s (ReceiveResponse port at spdu safe) k z = goes-stands p (λ q. happening.Response at (responseBy byBits q spdu)) s (not-false (p .setting .running) (k .each 1)) z
+taken-stands p s (ReceiveRequest port at spdu safe) k z = goes-stands p (λ q. happening.Request at (requestBy byBits q spdu)) s (not-false (p .setting .running) (k .each 1)) z
+taken-stands p s (Clock port at safeIn safeOut) k z = goes-stands p (λ q. happening.Clock at) s (not-false (p .setting .running) (k .each 1)) z
+taken-stands p s (Operator port at «setSD_C» «ChFAck_C» safe) k z = goes-stands p (λ q. happening.Operator at «setSD_C» «ChFAck_C») s (not-false (p .setting .running) (k .each 1)) z
 taken-stands p s (WithoutReading port act) k z = z
 
 -- ---- every history

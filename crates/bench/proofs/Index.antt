@@ -29,7 +29,7 @@ known-range q e =
 with-length : (b : Bench) (port : ℕ) (p : Port) → length (withPort b port p .ports) ≡ length (b .ports)
 unfolding withPort
 with-length b port p =
-    cond-case (λ (n : Bench). length (n .ports) ≡ length (b .ports)) (outside 1 8 port) (λ _. refl) (λ _. length-set (b .ports) (port - 1) p)
+    cond-case (λ (n : Bench). length (n .ports) ≡ length (b .ports)) (outside 1 8 port) (λ _. refl) (λ _. simp length-set)
 
 pub new-at : (q : ℕ) → portAt newBench q ≡ newPort
 unfolding portAt newBench

@@ -1,8 +1,13 @@
 pub mod Taken
 pub mod Index
+pub mod Reading
 pub mod Answers
 pub mod AtPort
 pub mod Copied
+pub mod Regulars
+pub mod Raised
+pub mod Beside
+pub mod Acted
 pub mod History
 pub mod Release
 pub mod Never

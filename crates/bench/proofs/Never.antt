@@ -40,11 +40,11 @@ use Rattle.fs_device.proofs.Faults.{waits-always}
 use Rattle.histogram.proofs.Counting.{nothing-wraps}
 use Rattle.bench.specs.declared.Port.{Port}
 use Rattle.bench.specs.Ports.{newPort, portAt}
-use Rattle.bench.specs.Calls.{placed, parametersAs}
-use Rattle.bench.specs.Ports.{silent}
+use Rattle.bench.specs.Calls.{placed}
 use Rattle.bench.specs.History.{Call, SetParameters, ReceiveResponse, ReceiveRequest, Clock, Operator, WithoutReading, portOf, answerOf, history, Since, never, since, goesOn, extended, sinceBlock, Stands, Arising, blockIn, OctetsIn, no-call, one-more}
 use Rattle.samples.specs.Samples.{Previous, previousBy, lastTaken}
 use Rattle.samples.proofs.Samples.{previous-is}
+use Rattle.bench.proofs.Answers.{block-answer}
 use Rattle.bench.proofs.History.{stands}
 
 -- ---- what is read of an SPDU
@@ -177,8 +177,9 @@ block-sound : (octets : List ℕ) (port : ℕ) → ((i : ℕ) → getD octets i 
 block-sound octets port o t = record { taken-block = rw (taken-params octets port t) at (accepted octets port o t); all-read = none }
 
 extended-sound : (q : ℕ) (past : List Call) (c : Call) (s : Since) → portOf c ≡ q → isTaken (answerOf (history past) c) ≡ true → ((i : ℕ) → getD (blockIn c) i 0 < 256) → Sounds q s → Sounds q (extended s c)
-unfolding extended blockIn Sounds portOf answerOf placed parametersAs silent Read
-extended-sound q past (SetParameters port at octets) s e t o z = rw (sym e) (block-sound octets port o t)
+unfolding extended blockIn Sounds portOf answerOf placed Read
+extended-sound q past (SetParameters port at octets) s e t o z =
+    rw (sym e) (block-sound octets port o (sym (ap isTaken (block-answer (portAt (history past) port) at (judged octets port))) ∙ t))
 extended-sound q past (ReceiveResponse port at spdu safe) s e t o z = goes-sound q s (λ p. happening.Response at (responseBy byBits p spdu)) (λ p. response-read p spdu) z
 extended-sound q past (ReceiveRequest port at spdu safe) s e t o z = goes-sound q s (λ p. happening.Request at (requestBy byBits p spdu)) (λ p. request-read p spdu) z
 extended-sound q past (Clock port at safeIn safeOut) s e t o z = goes-sound q s (λ p. happening.Clock at) (λ p. refl) z
@@ -195,9 +196,9 @@ sounds q (c ∷ past) (one-more o rest) = go (eqb (portOf c) q) refl (isTaken (a
     go true e false f z = z
     go true e true f z = extended-sound q past c (sinceBlock q past) (eqb-true (portOf c) q e) f o z
 
-arises : (q : ℕ) (p : Port) (s : Since) → p .running ≡ true → Stands p s → Sounds q s → Arising q p
+arises : (q : ℕ) (p : Port) (s : Since) → p .setting .running ≡ true → Stands p s → Sounds q s → Arising q p
 unfolding Stands Sounds newPort
-arises q p never r z y = let e : true ≡ false = sym r ∙ ap (λ (n : Port). n .running) z in no e
+arises q p never r z y = let e : true ≡ false = sym r ∙ ap (λ (n : Port). n .setting .running) z in no e
 arises q p (since at params past) r z y =
     let w = params .«FSP_WatchdogTime» in
     let b = bounded-always at w (y .all-read) in
@@ -219,5 +220,5 @@ arises q p (since at params past) r z y =
     }
 
 -- A port that runs, after every history of octets.
-pub arising : (q : ℕ) → outside 1 8 q ≡ false → (past : List Call) → OctetsIn past → portAt (history past) q .running ≡ true → Arising q (portAt (history past) q)
+pub arising : (q : ℕ) → outside 1 8 q ≡ false → (past : List Call) → OctetsIn past → portAt (history past) q .setting .running ≡ true → Arising q (portAt (history past) q)
 arising q known past o r = arises q (portAt (history past) q) (sinceBlock q past) r (stands q known past) (sounds q past o)

@@ -21,10 +21,10 @@ use Rattle.bench.proofs.History.{stands}
 -- a port of the bench, what happened at it since its last accepted block, and the block
 module _ (q : ℕ) (known : outside 1 8 q ≡ false) (calls : List Call) (at : ℕ) (params : Params) (past : List Happening) (block : sinceBlock q calls ≡ since at params past) where
   abbrev master : Master
-  master = portAt (history calls) q .master
+  master = portAt (history calls) q .live .master
 
   abbrev device : Device
-  device = portAt (history calls) q .device
+  device = portAt (history calls) q .live .device
 
   abbrev w : ℕ
   w = params .«FSP_WatchdogTime»

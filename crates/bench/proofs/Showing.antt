@@ -20,6 +20,7 @@ use Rattle.histogram.proofs.Counting.{frozen-mark}
 use Rattle.histogram.proofs.Trends as trendProofs
 use Rattle.samples.specs.Samples.{samples}
 use Rattle.bench.specs.declared.Port.{Port}
+use Rattle.bench.specs.Ports.{histogramOf}
 use Rattle.bench.specs.Shown.{seen, trendOf, binsOf}
 use Rattle.bench.specs.History.{StandsSince}
 
@@ -40,7 +41,7 @@ module _ (q : ℕ) (known : outside 1 8 q ≡ false) (p : Port) (at : ℕ) (para
   -- "NO_SAMPLES: a trend point is asked for with no sample"
   pub trend-answer : trendOf q p .answer ≡ cond (eqb (length (samples at (params .«FSP_WatchdogTime») past)) 0) NoSamples Taken
   unfolding trendOf
-  trend-answer = simp (known, s .running) (trend-by (p .histogram) ∙ trendProofs.answered (samples at (params .«FSP_WatchdogTime») past) (s .counted))
+  trend-answer = simp (known, s .running) (trend-by (histogramOf p) ∙ trendProofs.answered (samples at (params .«FSP_WatchdogTime») past) (s .counted))
 
   -- the exact sum over the exact total, rounded once, and the ends
   pub trend-shown : 0 < length (samples at (params .«FSP_WatchdogTime») past)

@@ -1,4 +1,4 @@
--- The calls with a clock reading: their rules in 01's order (R27), and what they do. Assumes nothing.
+-- The calls with a clock reading: their rules in 01's order (R27), what they ask of a port, and what that makes of it. Assumes nothing.
 use Prim.Native.Nat.{ℕ}
 use mathlib.Core.Bool.{Bool, cond, not, _&&_}
 use mathlib.Core.List.{List, [], _∷_, _++_}
@@ -12,74 +12,103 @@ use Rattle.ranges.specs.Fields.{outside}
 use Rattle.block.specs.declared.Params.{Params}
 use Rattle.block.specs.declared.Judged.{Judged}
 use Rattle.block.specs.Rules.{judged}
-use Rattle.scl.specs.declared.Request.{Request}
-use Rattle.scl.specs.declared.Response.{Response}
 use Rattle.spdu.specs.Signature.{byBits}
 use Rattle.spdu.specs.Fields.{responseBy, requestBy}
 use Rattle.spdu.specs.Image.{safeValuesHold}
 use Rattle.scl.specs.declared.Happening.{Happening}
 use Rattle.scl.specs.declared.Happening.the-variants as happening
+use Rattle.bench.specs.declared.Setting.{Setting}
 use Rattle.bench.specs.declared.Port.{Port}
 use Rattle.bench.specs.declared.Bench.{Bench}
+use Rattle.bench.specs.declared.Act.{Act}
+use Rattle.bench.specs.declared.Act.the-variants.{Refused, Accepted, Happens}
 use Rattle.bench.specs.declared.PortAfter.{PortAfter}
 use Rattle.bench.specs.declared.BenchAfter.{BenchAfter}
 use Rattle.bench.specs.Ports.{acceptedPort, portAt, withPort, stepOf, silent}
 
--- Rules. p is the port addressed, port its number. "For every other call: 8, 9, 10, 7, 11."
+-- Rules. s is the setting of the port addressed; o says that no port has the number. "For every other call: 8, 9, 10, 7, 11."
 
 -- 8 and 9
-abbrev pub callRules : ℕ → Port → List Rule
-callRules port p = rule (outside 1 8 port) NoPort ∷ rule (not (p .running)) NotRunning ∷ []
+abbrev pub rulesIf : Bool → Setting → List Rule
+rulesIf o s = rule o NoPort ∷ rule (not (s .running)) NotRunning ∷ []
 
--- 10: a received SPDU of n octets, where m are configured
-abbrev pub lengthRule : ℕ → ℕ → Rule
-lengthRule m n = rule (not (eqb n m)) SpduLength
+abbrev pub callRules : ℕ → Setting → List Rule
+callRules port s = rulesIf (outside 1 8 port) s
 
--- 7: the safe values lent, the FS-Master's (as many zeros as its SPDU has process octets) and the FS-Device's
+-- 10: a received SPDU of n octets, where m are configured; 7: the safe values lent do not hold
+abbrev pub spduRules : Bool → Setting → ℕ → ℕ → Bool → List Rule
+spduRules o s m n holds = rulesIf o s ++ (rule (not (eqb n m)) SpduLength ∷ rule (not holds) Buffer ∷ [])
+
+abbrev pub otherRules : Bool → Setting → Bool → List Rule
+otherRules o s holds = rulesIf o s ++ (rule (not holds) Buffer ∷ [])
+
+-- the safe values that hold: the FS-Master's (as many zeros as its SPDU has process octets) and the FS-Device's
 abbrev pub safeInHold : Params → List ℕ → Bool
 safeInHold p safe = safeValuesHold (p .«FSP_ProtMode») (p .SPDUInLength) safe
 
 abbrev pub safeOutHold : Params → List ℕ → Bool
 safeOutHold p safe = safeValuesHold (p .«FSP_ProtMode») (p .SPDUOutLength) safe
 
-abbrev pub responseRules : ℕ → Port → ℕ → List ℕ → List Rule
-responseRules port p n safe =
-    callRules port p ++ (lengthRule (p .params .SPDUInLength) n ∷ rule (not (safeInHold (p .params) safe)) Buffer ∷ [])
+abbrev pub responseRules : ℕ → Setting → ℕ → List ℕ → List Rule
+responseRules port s n safe = spduRules (outside 1 8 port) s (s .params .SPDUInLength) n (safeInHold (s .params) safe)
 
-abbrev pub requestRules : ℕ → Port → ℕ → List ℕ → List Rule
-requestRules port p n safe =
-    callRules port p ++ (lengthRule (p .params .SPDUOutLength) n ∷ rule (not (safeOutHold (p .params) safe)) Buffer ∷ [])
+abbrev pub requestRules : ℕ → Setting → ℕ → List ℕ → List Rule
+requestRules port s n safe = spduRules (outside 1 8 port) s (s .params .SPDUOutLength) n (safeOutHold (s .params) safe)
 
 -- a clock call lends both (R26)
-abbrev pub clockRules : ℕ → Port → List ℕ → List ℕ → List Rule
-clockRules port p safeIn safeOut = callRules port p ++ (rule (not (safeInHold (p .params) safeIn && safeOutHold (p .params) safeOut)) Buffer ∷ [])
+abbrev pub clockRules : ℕ → Setting → List ℕ → List ℕ → List Rule
+clockRules port s safeIn safeOut = otherRules (outside 1 8 port) s (safeInHold (s .params) safeIn && safeOutHold (s .params) safeOut)
 
-abbrev pub operatorRules : ℕ → Port → List ℕ → List Rule
-operatorRules port p safe = callRules port p ++ (rule (not (safeInHold (p .params) safe)) Buffer ∷ [])
+abbrev pub operatorRules : ℕ → Setting → List ℕ → List Rule
+operatorRules port s safe = otherRules (outside 1 8 port) s (safeInHold (s .params) safe)
 
--- At a port. "A refusal changes no state".
+-- What a call asks of its port, by a method of signing where an SPDU is read.
 
-unfoldable pub settled : Port → Answer → Happening → PortAfter
-settled p a h = cond (isTaken a) (stepOf p h) (record { port = p; reply = silent a })
+unfoldable pub asked : Answer → Happening → Act
+asked a h = cond (isTaken a) (Happens h) (Refused a)
 
-abbrev pub responseAt : ℕ → Port → ℕ → Response → List ℕ → PortAfter
-responseAt port p at f safe = settled p (answerBy Taken (responseRules port p (f .length) safe)) (happening.Response at f)
+unfoldable pub askedByBlock : Judged → Act
+askedByBlock j = cond (isTaken (j .answer)) (Accepted (j .params)) (Refused (j .answer))
 
-abbrev pub requestAt : ℕ → Port → ℕ → Request → List ℕ → PortAfter
-requestAt port p at q safe = settled p (answerBy Taken (requestRules port p (q .length) safe)) (happening.Request at q)
+abbrev pub parametersAct : ℕ → List ℕ → Act
+parametersAct port octets = askedByBlock (judged octets port)
 
-abbrev pub clockAt : ℕ → Port → ℕ → List ℕ → List ℕ → PortAfter
-clockAt port p at safeIn safeOut = settled p (answerBy Taken (clockRules port p safeIn safeOut)) (happening.Clock at)
+abbrev pub responseAct : (ℕ → List ℕ → ℕ) → Bool → Setting → ℕ → List ℕ → Bool → Act
+responseAct sign o s at spdu holds =
+    asked (answerBy Taken (spduRules o s (s .params .SPDUInLength) (length spdu) holds)) (happening.Response at (responseBy sign (s .params) spdu))
 
-abbrev pub operatorAt : ℕ → Port → ℕ → Bool → Bool → List ℕ → PortAfter
-operatorAt port p at «setSD_C» «ChFAck_C» safe = settled p (answerBy Taken (operatorRules port p safe)) (happening.Operator at «setSD_C» «ChFAck_C»)
+abbrev pub requestAct : (ℕ → List ℕ → ℕ) → Bool → Setting → ℕ → List ℕ → Bool → Act
+requestAct sign o s at spdu holds =
+    asked (answerBy Taken (spduRules o s (s .params .SPDUOutLength) (length spdu) holds)) (happening.Request at (requestBy sign (s .params) spdu))
 
--- a parameter block judged, with its reading
-unfoldable pub parametersAs : Port → ℕ → Judged → PortAfter
-parametersAs p at j = record { port = cond (isTaken (j .answer)) (acceptedPort p (j .params) at) p; reply = silent (j .answer) }
+abbrev pub clockAct : Bool → Setting → ℕ → Bool → Act
+clockAct o s at holds = asked (answerBy Taken (otherRules o s holds)) (happening.Clock at)
+
+abbrev pub operatorAct : Bool → Setting → ℕ → Bool → Bool → Bool → Act
+operatorAct o s at «setSD_C» «ChFAck_C» holds = asked (answerBy Taken (otherRules o s holds)) (happening.Operator at «setSD_C» «ChFAck_C»)
+
+-- At a port, with the reading of the call. "A refusal changes no state".
+unfoldable pub done : Port → ℕ → Act → PortAfter
+done p at (Refused a) = record { port = p; reply = silent a }
+done p at (Accepted params) = record { port = acceptedPort p params at; reply = silent Taken }
+done p at (Happens h) = stepOf p h
 
 abbrev pub parametersAt : ℕ → Port → ℕ → List ℕ → PortAfter
-parametersAt port p at octets = parametersAs p at (judged octets port)
+parametersAt port p at octets = done p at (parametersAct port octets)
+
+abbrev pub responseAt : ℕ → Port → ℕ → List ℕ → List ℕ → PortAfter
+responseAt port p at spdu safe = done p at (responseAct byBits (outside 1 8 port) (p .setting) at spdu (safeInHold (p .setting .params) safe))
+
+abbrev pub requestAt : ℕ → Port → ℕ → List ℕ → List ℕ → PortAfter
+requestAt port p at spdu safe = done p at (requestAct byBits (outside 1 8 port) (p .setting) at spdu (safeOutHold (p .setting .params) safe))
+
+abbrev pub clockAt : ℕ → Port → ℕ → List ℕ → List ℕ → PortAfter
+clockAt port p at safeIn safeOut =
+    done p at (clockAct (outside 1 8 port) (p .setting) at (safeInHold (p .setting .params) safeIn && safeOutHold (p .setting .params) safeOut))
+
+abbrev pub operatorAt : ℕ → Port → ℕ → Bool → Bool → List ℕ → PortAfter
+operatorAt port p at «setSD_C» «ChFAck_C» safe =
+    done p at (operatorAct (outside 1 8 port) (p .setting) at «setSD_C» «ChFAck_C» (safeInHold (p .setting .params) safe))
 
 -- At the bench: the same at the port's place.
 
@@ -90,10 +119,10 @@ abbrev pub setParameters : Bench → ℕ → ℕ → List ℕ → BenchAfter
 setParameters b port at octets = placed b port (parametersAt port (portAt b port) at octets)
 
 abbrev pub receiveResponse : Bench → ℕ → ℕ → List ℕ → List ℕ → BenchAfter
-receiveResponse b port at spdu safe = placed b port (responseAt port (portAt b port) at (responseBy byBits (portAt b port .params) spdu) safe)
+receiveResponse b port at spdu safe = placed b port (responseAt port (portAt b port) at spdu safe)
 
 abbrev pub receiveRequest : Bench → ℕ → ℕ → List ℕ → List ℕ → BenchAfter
-receiveRequest b port at spdu safe = placed b port (requestAt port (portAt b port) at (requestBy byBits (portAt b port .params) spdu) safe)
+receiveRequest b port at spdu safe = placed b port (requestAt port (portAt b port) at spdu safe)
 
 abbrev pub clock : Bench → ℕ → ℕ → List ℕ → List ℕ → BenchAfter
 clock b port at safeIn safeOut = placed b port (clockAt port (portAt b port) at safeIn safeOut)

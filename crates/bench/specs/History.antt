@@ -34,7 +34,7 @@ use Rattle.histogram.specs.Samples.{binCount, Within, Holds, Fits}
 use Rattle.samples.specs.Samples.{samples, histogramAfter}
 use Rattle.bench.specs.declared.Port.{Port}
 use Rattle.bench.specs.declared.Bench.{Bench}
-use Rattle.bench.specs.Ports.{newPort, newBench, portAt}
+use Rattle.bench.specs.Ports.{newPort, newBench, portAt, histogramOf}
 use Rattle.bench.specs.Calls as calls
 use Rattle.bench.specs.Images.{composeAnswer, buildAnswer, splitAnswer, handedOn, handedTo}
 use Rattle.bench.specs.Shown.{trendRules, trendOf, binsOf, masterOf, deviceOf}
@@ -74,25 +74,25 @@ portOf (WithoutReading port act) = port
 
 -- 8, 9, and 7 where what is lent does not fit (R27)
 abbrev pub bufferRules : ℕ → Port → Bool → List Rule
-bufferRules port p fits = calls.callRules port p ++ (rule (not fits) Buffer ∷ [])
+bufferRules port p fits = calls.callRules port (p .setting) ++ (rule (not fits) Buffer ∷ [])
 
 unfoldable pub rulesWithoutReading : ℕ → Port → NoReading → List Rule
-rulesWithoutReading port p (Compose process other octets) = bufferRules port p (image.composerHolds (p .params) (length process) (length other) (length octets))
+rulesWithoutReading port p (Compose process other octets) = bufferRules port p (image.composerHolds (p .setting .params) (length process) (length other) (length octets))
 rulesWithoutReading port p (BuildResponse process out) =
-    bufferRules port p (buffersHold (p .params .«FSP_ProtMode») (p .params .SPDUInLength) (length process) (length out))
-rulesWithoutReading port p (Split octets) = bufferRules port p (image.splitterHolds (p .params) (length octets))
+    bufferRules port p (buffersHold (p .setting .params .«FSP_ProtMode») (p .setting .params .SPDUInLength) (length process) (length out))
+rulesWithoutReading port p (Split octets) = bufferRules port p (image.splitterHolds (p .setting .params) (length octets))
 rulesWithoutReading port p (HandOn mark spdu safe out) = bufferRules port p (leb (length (handedOn p mark spdu safe)) (length out))
 rulesWithoutReading port p Trend = trendRules port p
-rulesWithoutReading port p Bins = calls.callRules port p
-rulesWithoutReading port p ShowMaster = calls.callRules port p
-rulesWithoutReading port p ShowDevice = calls.callRules port p
+rulesWithoutReading port p Bins = calls.callRules port (p .setting)
+rulesWithoutReading port p ShowMaster = calls.callRules port (p .setting)
+rulesWithoutReading port p ShowDevice = calls.callRules port (p .setting)
 
 unfoldable pub rulesOf : Port → Call → List Rule
 rulesOf p (SetParameters port at octets) = rulesOn octets port
-rulesOf p (ReceiveResponse port at spdu safe) = calls.responseRules port p (length spdu) safe
-rulesOf p (ReceiveRequest port at spdu safe) = calls.requestRules port p (length spdu) safe
-rulesOf p (Clock port at safeIn safeOut) = calls.clockRules port p safeIn safeOut
-rulesOf p (Operator port at «setSD_C» «ChFAck_C» safe) = calls.operatorRules port p safe
+rulesOf p (ReceiveResponse port at spdu safe) = calls.responseRules port (p .setting) (length spdu) safe
+rulesOf p (ReceiveRequest port at spdu safe) = calls.requestRules port (p .setting) (length spdu) safe
+rulesOf p (Clock port at safeIn safeOut) = calls.clockRules port (p .setting) safeIn safeOut
+rulesOf p (Operator port at «setSD_C» «ChFAck_C» safe) = calls.operatorRules port (p .setting) safe
 rulesOf p (WithoutReading port act) = rulesWithoutReading port p act
 
 -- the answer that the call's contract gives
@@ -162,13 +162,13 @@ sinceBlock q (c ∷ past) =
 -- ---- What a port holds
 
 pub record StandsSince (p : Port) (at : ℕ) (params : Params) (past : List Happening) : Type 0 where
-  pub running : p .running ≡ true
-  pub parameters : p .params ≡ params
-  pub master : p .master ≡ masterAfter at (params .«FSP_WatchdogTime») past
-  pub device : p .device ≡ deviceSpecs.deviceAfter at (params .«FSP_WatchdogTime») past
-  pub histogram : p .histogram ≡ histogramAfter at (params .«FSP_WatchdogTime») past
+  pub running : p .setting .running ≡ true
+  pub parameters : p .setting .params ≡ params
+  pub master : p .live .master ≡ masterAfter at (params .«FSP_WatchdogTime») past
+  pub device : p .live .device ≡ deviceSpecs.deviceAfter at (params .«FSP_WatchdogTime») past
+  pub histogram : histogramOf p ≡ histogramAfter at (params .«FSP_WatchdogTime») past
   -- bins, total, sum, lowest and highest are those of the samples, up to the freeze
-  pub counted : Holds (params .«FSP_WatchdogTime») (samples at (params .«FSP_WatchdogTime») past) (p .histogram)
+  pub counted : Holds (params .«FSP_WatchdogTime») (samples at (params .«FSP_WatchdogTime») past) (histogramOf p)
   pub within : Within (params .«FSP_WatchdogTime») (samples at (params .«FSP_WatchdogTime») past)
   pub small : params .«FSP_WatchdogTime» ≤ 65535
 
@@ -179,21 +179,21 @@ Stands p (since at params past) = StandsSince p at params past
 -- ---- Values that never arise (a ProtMode of 7, a count of 9, a bin that wraps): what holds of a port that runs, of number q
 
 pub record Arising (q : ℕ) (p : Port) : Type 0 where
-  pub parameters : Accepted q (p .params)
+  pub parameters : Accepted q (p .setting .params)
   -- R17b
-  pub master : Held (p .master)
-  pub count : p .master .MCount ≤ 7
-  pub carried : p .master .carried ≤ 7
-  pub awaited : p .master .awaited ≤ 7
-  pub device : deviceSpecs.waits (p .device) ≡ true
-  pub taken-count : p .device .MCount ≤ 7
-  pub mirrored : p .device .«DCount_i» ≤ 7
-  pub cycles : p .device .SDcycles ≤ 3
-  pub errors : p .device .CommErrCount ≤ 1
-  pub timeouts : p .device .TimeoutCount ≤ 1
+  pub master : Held (p .live .master)
+  pub count : p .live .master .MCount ≤ 7
+  pub carried : p .live .master .carried ≤ 7
+  pub awaited : p .live .master .awaited ≤ 7
+  pub device : deviceSpecs.waits (p .live .device) ≡ true
+  pub taken-count : p .live .device .MCount ≤ 7
+  pub mirrored : p .live .device .«DCount_i» ≤ 7
+  pub cycles : p .live .device .SDcycles ≤ 3
+  pub errors : p .live .device .CommErrCount ≤ 1
+  pub timeouts : p .live .device .TimeoutCount ≤ 1
   -- nothing in the histogram wraps
-  pub bins : length (p .histogram .bins) ≡ binCount
-  pub fits : Fits (p .histogram)
+  pub bins : length (p .bins) ≡ binCount
+  pub fits : Fits (histogramOf p)
 
 -- what is lent as a block
 unfoldable pub blockIn : Call → List ℕ
@@ -218,14 +218,14 @@ handsOn releases row process n = cond releases (cond row process []) (replicate 
 
 -- the process octets of a port's SPDUs, as FS-Master and as FS-Device
 abbrev pub octetsIn : Port → ℕ
-octetsIn p = processOctets (p .params .«FSP_ProtMode») (p .params .SPDUInLength)
+octetsIn p = processOctets (p .setting .params .«FSP_ProtMode») (p .setting .params .SPDUInLength)
 
 abbrev pub octetsOut : Port → ℕ
-octetsOut p = processOctets (p .params .«FSP_ProtMode») (p .params .SPDUOutLength)
+octetsOut p = processOctets (p .setting .params .«FSP_ProtMode») (p .setting .params .SPDUOutLength)
 
 -- this call's SPDU led to a row, at the FS-Master and at the FS-Device
 abbrev pub responseTaken : Port → ℕ → Response → Bool
-responseTaken p at f = table38.isTaken (masters.judged (p .master) (p .params .«FSP_WatchdogTime») at) f
+responseTaken p at f = table38.isTaken (masters.judged (p .live .master) (p .setting .params .«FSP_WatchdogTime») at) f
 
 abbrev pub requestTaken : Port → ℕ → Request → Bool
-requestTaken p at q = table40.isTaken (devices.judged (p .device) (p .params .«FSP_WatchdogTime») at) q
+requestTaken p at q = table40.isTaken (devices.judged (p .live .device) (p .setting .params .«FSP_WatchdogTime») at) q

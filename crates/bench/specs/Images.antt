@@ -18,44 +18,44 @@ use Rattle.bench.specs.Calls.{callRules}
 
 -- 8 and 9 (R27); where both are kept, the answer on the buffers: 7 for a wrong length, else TAKEN
 abbrev pub onBuffers : ℕ → Port → Bool → Answer
-onBuffers port p hold = let a = answerBy Taken (callRules port p) in cond (isTaken a) (builtAs hold) a
+onBuffers port p hold = let a = answerBy Taken (callRules port (p .setting)) in cond (isTaken a) (builtAs hold) a
 
 -- "A refusal .. writes no buffer": what stands in a buffer later
 abbrev pub unlessRefused : ℕ → Port → List ℕ → List ℕ → List ℕ
-unlessRefused port p written unchanged = cond (isTaken (answerBy Taken (callRules port p))) written unchanged
+unlessRefused port p written unchanged = cond (isTaken (answerBy Taken (callRules port (p .setting)))) written unchanged
 
 -- the FS-Master's outgoing image
 unfoldable pub composeAnswer : ℕ → Port → List ℕ → List ℕ → List ℕ → Answer
-composeAnswer port p process other octets = onBuffers port p (image.composerHolds (p .params) (length process) (length other) (length octets))
+composeAnswer port p process other octets = onBuffers port p (image.composerHolds (p .setting .params) (length process) (length other) (length octets))
 
 unfoldable pub composed : ℕ → Port → List ℕ → List ℕ → List ℕ → List ℕ
 composed port p process other octets =
-    let m = p .master in
-    unlessRefused port p (image.composed byBits (p .params) (m .MCount) (m .setSD) (m .ChFAckReq) process other octets) octets
+    let m = p .live .master in
+    unlessRefused port p (image.composed byBits (p .setting .params) (m .MCount) (m .setSD) (m .ChFAckReq) process other octets) octets
 
 -- the FS-Device's outgoing SPDU
 unfoldable pub buildAnswer : ℕ → Port → List ℕ → List ℕ → Answer
 buildAnswer port p process out =
-    onBuffers port p (buffersHold (p .params .«FSP_ProtMode») (p .params .SPDUInLength) (length process) (length out))
+    onBuffers port p (buffersHold (p .setting .params .«FSP_ProtMode») (p .setting .params .SPDUInLength) (length process) (length out))
 
 unfoldable pub responseOut : ℕ → Port → List ℕ → List ℕ → List ℕ
 responseOut port p process out =
-    let d = p .device in
-    unlessRefused port p (responseBuilt byBits (p .params) (d .responded) (d .«DCount_i») (d .SDset) (d .DCommErr) (d .DTimeout) process out) out
+    let d = p .live .device in
+    unlessRefused port p (responseBuilt byBits (p .setting .params) (d .responded) (d .«DCount_i») (d .SDset) (d .DCommErr) (d .DTimeout) process out) out
 
 -- the two parts of an incoming image; of a refused one both are empty
 unfoldable pub splitAnswer : ℕ → Port → List ℕ → Answer
-splitAnswer port p octets = onBuffers port p (image.splitterHolds (p .params) (length octets))
+splitAnswer port p octets = onBuffers port p (image.splitterHolds (p .setting .params) (length octets))
 
 unfoldable pub spduPart : ℕ → Port → List ℕ → List ℕ
-spduPart port p octets = unlessRefused port p (image.spduPart (p .params) octets) []
+spduPart port p octets = unlessRefused port p (image.spduPart (p .setting .params) octets) []
 
 unfoldable pub otherPart : ℕ → Port → List ℕ → List ℕ
-otherPart port p octets = unlessRefused port p (image.otherPart (p .params) octets) []
+otherPart port p octets = unlessRefused port p (image.otherPart (p .setting .params) octets) []
 
 -- what a call with this mark handed on of its SPDU and its safe values (R26)
 abbrev pub handedOn : Port → Mark → List ℕ → List ℕ → List ℕ
-handedOn p mark spdu safe = image.handedOn mark (p .params .«FSP_ProtMode») spdu safe
+handedOn p mark spdu safe = image.handedOn mark (p .setting .params .«FSP_ProtMode») spdu safe
 
 -- the same, copied to the front of a buffer that has room for it, as a caller in C has it (docs/DECISIONS.md): 8, 9, and 7 where there is no room (R27);
 -- with how many octets are handed on

@@ -1,4 +1,6 @@
 pub mod Ports
+pub mod Regular
+pub mod Columns
 pub mod Calls
 pub mod Images
 pub mod Shown

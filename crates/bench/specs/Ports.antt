@@ -13,32 +13,44 @@ use Rattle.scl.specs.declared.Happening.{Happening}
 use Rattle.fs_master.specs.Table38.{firstMaster}
 use Rattle.fs_device.specs.Table40.{firstDevice}
 use Rattle.fs_device.specs.Calls as devices
-use Rattle.histogram.specs.Counted.{clearedOf}
-use Rattle.samples.specs.Tallied.{movedOf, stepped}
+use Rattle.histogram.specs.declared.Histogram.{Histogram}
+use Rattle.histogram.specs.Samples.{binCount, binOf}
+use Rattle.histogram.specs.Counted.{clearedOf, totalsOf, withBins, raisedIf}
+use Rattle.samples.specs.Tallied.{movedOf, talliedBy}
+use Rattle.bench.specs.declared.Setting.{Setting}
+use Rattle.bench.specs.declared.Live.{Live}
 use Rattle.bench.specs.declared.Port.{Port}
 use Rattle.bench.specs.declared.Bench.{Bench}
+use Rattle.bench.specs.declared.Place.{Place}
+use Rattle.bench.specs.declared.Turned.{Turned}
 use Rattle.bench.specs.declared.Reply.{Reply}
 use Rattle.bench.specs.declared.PortAfter.{PortAfter}
+
+-- the histogram of a port, whose totals move with the ends and whose bins stand apart
+abbrev pub histogramOf : Port → Histogram
+histogramOf p = withBins (p .live .totals) (p .bins)
+
+-- both ends in their first state, no sample
+abbrev pub firstLive : ℕ → Live
+firstLive at = record { totals = totalsOf clearedOf; device = firstDevice at; master = firstMaster at }
+
+-- what an accepted block makes of each part, from the old one
+abbrev pub accepted : Setting → Params → Setting
+accepted s params = record { params = params; running = true }
+
+abbrev pub begun : Live → ℕ → Live
+begun l at = firstLive at
+
+-- "An accepted block .. puts both ends of the port in their first state, clears bins, total, trend and frozen mark, and takes W"
+unfoldable pub acceptedPort : Port → Params → ℕ → Port
+acceptedPort p params at = record { setting = accepted (p .setting) params; live = begun (p .live) at; bins = replicate binCount 0 }
 
 -- no accepted parameters
 unfoldable pub newPort : Port
 newPort = record {
-  running = false;
-  params = noParams;
-  master = firstMaster 0;
-  device = firstDevice 0;
-  histogram = clearedOf;
-}
-
--- "An accepted block .. puts both ends of the port in their first state, clears bins, total, trend and frozen mark, and takes W", from the old
--- port and the parameters
-unfoldable pub acceptedPort : Port → Params → ℕ → Port
-acceptedPort p params at = record {
-  running = true;
-  params = params;
-  master = firstMaster at;
-  device = firstDevice at;
-  histogram = clearedOf;  -- "clears bins, total, trend and frozen mark"
+  setting = record { params = noParams; running = false };
+  live = firstLive 0;
+  bins = replicate binCount 0;
 }
 
 unfoldable pub newBench : Bench
@@ -47,45 +59,51 @@ newBench = record { ports = replicate 8 newPort }
 -- what a list of ports is read as past its end: no index gets there
 unfoldable pub noPort : Port
 noPort = record {
-  running = false;
-  params = noParams;
-  master = record {
-    state = 0;
-    MCount = 0;
-    setSD = false;
-    «SDset_S» = false;
-    ChFAckReq = false;
-    «ChFAckReq_S» = false;
-    «ChFAck_C_e» = false;
-    «setSD_C» = false;
-    «ChFAck_C» = false;
-    previous = false;
-    carried = 0;
-    awaited = 0;
-    MTimer = 0;
-    runs = false;
-    sample = 0;
-    released = false;
+  setting = record { params = noParams; running = false };
+  live = record {
+    totals = record { sum = 0; total = 0; lowest = 0; highest = 0 };
+    device = record {
+      state = 0;
+      SDcycles = 0;
+      CommErrCount = 0;
+      TimeoutCount = 0;
+      DCommErr = false;
+      DTimeout = false;
+      SDset = false;
+      «setSD_DC» = false;
+      «ChFAckReq_DC» = false;
+      «DCount_i» = 0;
+      MCount = 0;
+      DTimer = 0;
+      runs = false;
+      released = false;
+      responded = false;
+    };
+    master = record {
+      state = 0;
+      MCount = 0;
+      setSD = false;
+      «SDset_S» = false;
+      ChFAckReq = false;
+      «ChFAckReq_S» = false;
+      «ChFAck_C_e» = false;
+      «setSD_C» = false;
+      «ChFAck_C» = false;
+      previous = false;
+      carried = 0;
+      awaited = 0;
+      MTimer = 0;
+      runs = false;
+      sample = 0;
+      released = false;
+    };
   };
-  device = record {
-    state = 0;
-    SDcycles = 0;
-    CommErrCount = 0;
-    TimeoutCount = 0;
-    DCommErr = false;
-    DTimeout = false;
-    SDset = false;
-    «setSD_DC» = false;
-    «ChFAckReq_DC» = false;
-    «DCount_i» = 0;
-    MCount = 0;
-    DTimer = 0;
-    runs = false;
-    released = false;
-    responded = false;
-  };
-  histogram = record { bins = []; total = 0; sum = 0; lowest = 0; highest = 0 };
+  bins = [];
 }
+
+-- where the port of a number stands; of a number that no port has, the first place
+abbrev pub placeOf : ℕ → Place
+placeOf port = record { index = cond (outside 1 8 port) 0 (port - 1); outside = outside 1 8 port }
 
 -- the port of a number; of a number that no port has, a port that never ran
 unfoldable pub portAt : Bench → ℕ → Port
@@ -95,28 +113,36 @@ portAt b port = cond (outside 1 8 port) newPort (getD (b .ports) (port - 1) noPo
 unfoldable pub withPort : Bench → ℕ → Port → Bench
 withPort b port p = cond (outside 1 8 port) b (record { ports = set (b .ports) (port - 1) p })
 
--- Every happening judges the watchdog of both ends, then what arrived goes to the end it is for (R11).
-unfoldable pub stepOf : Port → Happening → PortAfter
-stepOf p h =
-    let w = p .params .«FSP_WatchdogTime» in
-    let m = movedOf (p .master) w h in
-    let d = devices.stepOf (p .device) w h in
+-- Every happening judges the watchdog of both ends, then what arrived goes to the end it is for (R11). A sample raises its bin.
+unfoldable pub turnOf : Setting → Live → Happening → Turned
+turnOf s l h =
+    let w = s .params .«FSP_WatchdogTime» in
+    let m = movedOf (l .master) w h in
+    let d = devices.stepOf (l .device) w h in
+    let c = talliedBy (l .totals) w (m .«passes_anew») (m .t) in
     record {
-      port = record {
-        running = p .running;
-        params = p .params;
-        master = m .master;
-        device = d .device;
-        histogram = stepped (p .histogram) (p .master) w h;
-      };
-      reply = record {
-        answer = Taken;
-        master = m .mark;
-        device = d .mark;
-        «master_releases» = m .master .released;
-        «device_releases» = d .device .released;
-      };
+      live = record { totals = c .totals; device = d .device; master = m .master };
+      counts = c .counted;
+      bin = binOf w (m .t);
+      master = m .mark;
+      device = d .mark;
     }
+
+-- the port with what a turn moves, and what the call says
+unfoldable pub stored : Port → Turned → PortAfter
+stored p t = record {
+  port = record { setting = p .setting; live = t .live; bins = raisedIf (t .counts) (p .bins) (t .bin) };
+  reply = record {
+    answer = Taken;
+    master = t .master;
+    device = t .device;
+    «master_releases» = t .live .master .released;
+    «device_releases» = t .live .device .released;
+  };
+}
+
+unfoldable pub stepOf : Port → Happening → PortAfter
+stepOf p h = stored p (turnOf (p .setting) (p .live) h)
 
 -- nothing is handed on: in a refusal, and in a parameter block, which lends no safe values
 unfoldable pub silent : Answer → Reply

@@ -13,28 +13,28 @@ use Rattle.bench.specs.declared.Port.{Port}
 use Rattle.bench.specs.declared.Bins.{Bins}
 use Rattle.bench.specs.declared.MasterShown.{MasterShown}
 use Rattle.bench.specs.declared.DeviceShown.{DeviceShown}
-use Rattle.bench.specs.Ports.{newPort}
+use Rattle.bench.specs.Ports.{newPort, histogramOf}
 use Rattle.bench.specs.Calls.{callRules}
 
 -- 8, 9, 11
 abbrev pub trendRules : ℕ → Port → List Rule
-trendRules port p = callRules port p ++ (rule (eqb (p .histogram .total) 0) NoSamples ∷ [])
+trendRules port p = callRules port (p .setting) ++ (rule (eqb (p .live .totals .total) 0) NoSamples ∷ [])
 
 -- the port that a call shows
 unfoldable pub seen : ℕ → Port → Port
-seen port p = cond (isTaken (answerBy Taken (callRules port p))) p newPort
+seen port p = cond (isTaken (answerBy Taken (callRules port (p .setting)))) p newPort
 
 unfoldable pub trendOf : ℕ → Port → Trend
 trendOf port p =
-    record { answer = answerBy Taken (trendRules port p); point = trends.trendOf (seen port p .histogram) .point }
+    record { answer = answerBy Taken (trendRules port p); point = trends.trendOf (histogramOf (seen port p)) .point }
 
 unfoldable pub binsOf : ℕ → Port → Bins
 binsOf port p =
-    let h = seen port p .histogram in
-    record { answer = answerBy Taken (callRules port p); bins = h .bins; total = h .total; frozen = frozenOf h }
+    let h = histogramOf (seen port p) in
+    record { answer = answerBy Taken (callRules port (p .setting)); bins = h .bins; total = h .total; frozen = frozenOf h }
 
 unfoldable pub masterOf : ℕ → Port → MasterShown
-masterOf port p = record { answer = answerBy Taken (callRules port p); master = seen port p .master }
+masterOf port p = record { answer = answerBy Taken (callRules port (p .setting)); master = seen port p .live .master }
 
 unfoldable pub deviceOf : ℕ → Port → DeviceShown
-deviceOf port p = record { answer = answerBy Taken (callRules port p); device = seen port p .device }
+deviceOf port p = record { answer = answerBy Taken (callRules port (p .setting)); device = seen port p .live .device }

@@ -5,7 +5,7 @@ ghost use Rattle.bench.specs.Ports.{portAt};
 ghost use Rattle.bench.specs.Images as images;
 use crate::Bench;
 use crate::Handed;
-use crate::at_port::call_answer;
+use crate::acts::port_answer;
 use crate::calls::port_at;
 use answer::Answer;
 use scl::Mark;
@@ -16,11 +16,11 @@ pub fn compose(b: Bench, port: u8, process: &[u8], other: &[u8], octets: &mut [u
     ensures { λ _. ⌜ now (octets .exit) ≡ images.composed port (portAt b port) (now (process .entry)) (now (other .entry)) (now (octets .entry)) ⌝ }
 {
     let p = port_at(b, port);
-    let a = call_answer(port, p);
+    let a = port_answer(port, p.setting);
     if answer::is_taken(a) {
-        let m = p.master;
+        let m = p.live.master;
         spdu::compose(
-            p.params,
+            p.setting.params,
             m.MCount,
             m.setSD,
             m.ChFAckReq,
@@ -39,11 +39,11 @@ pub fn build_response(b: Bench, port: u8, process: &[u8], out: &mut [u8]) -> Ans
     ensures { λ _. ⌜ now (out .exit) ≡ images.responseOut port (portAt b port) (now (process .entry)) (now (out .entry)) ⌝ }
 {
     let p = port_at(b, port);
-    let a = call_answer(port, p);
+    let a = port_answer(port, p.setting);
     if answer::is_taken(a) {
-        let d = p.device;
+        let d = p.live.device;
         spdu::build_response(
-            p.params,
+            p.setting.params,
             d.responded,
             d.DCount_i,
             d.SDset,
@@ -62,9 +62,9 @@ pub fn split(b: Bench, port: u8, octets: &[u8]) -> Answer
     ensures { λ r. ⌜ r ≡ images.splitAnswer port (portAt b port) (now (octets .entry)) ⌝ }
 {
     let p = port_at(b, port);
-    let a = call_answer(port, p);
+    let a = port_answer(port, p.setting);
     if answer::is_taken(a) {
-        spdu::split(p.params, octets)
+        spdu::split(p.setting.params, octets)
     } else {
         a
     }
@@ -74,8 +74,8 @@ pub fn spdu_part(b: Bench, port: u8, octets: &[u8]) -> &[u8]
     ensures { λ r. ⌜ now r ≡ images.spduPart port (portAt b port) (now (octets .entry)) ⌝ }
 {
     let p = port_at(b, port);
-    if answer::is_taken(call_answer(port, p)) {
-        spdu::spdu_part(p.params, octets)
+    if answer::is_taken(port_answer(port, p.setting)) {
+        spdu::spdu_part(p.setting.params, octets)
     } else {
         &octets[..0]
     }
@@ -85,8 +85,8 @@ pub fn other_part(b: Bench, port: u8, octets: &[u8]) -> &[u8]
     ensures { λ r. ⌜ now r ≡ images.otherPart port (portAt b port) (now (octets .entry)) ⌝ }
 {
     let p = port_at(b, port);
-    if answer::is_taken(call_answer(port, p)) {
-        spdu::other_part(p.params, octets)
+    if answer::is_taken(port_answer(port, p.setting)) {
+        spdu::other_part(p.setting.params, octets)
     } else {
         &octets[..0]
     }
@@ -97,7 +97,7 @@ pub fn handed_on<'a>(b: Bench, port: u8, mark: Mark, spdu: &'a [u8], safe: &'a [
     ensures { λ r. ⌜ now r ≡ images.handedOn (portAt b port) mark (now (spdu .entry)) (now (safe .entry)) ⌝ }
 {
     let p = port_at(b, port);
-    spdu::handed_on(mark, p.params.FSP_ProtMode, spdu, safe)
+    spdu::handed_on(mark, p.setting.params.FSP_ProtMode, spdu, safe)
 }
 
 // The same, copied to the front of out; 7 where out has no room for it.
@@ -112,7 +112,8 @@ pub fn hand_on<'a>(
     ensures { λ r. ⌜ r ≡ images.handedTo port (portAt b port) mark (now (spdu .entry)) (now (safe .entry)) (length (now (out .entry))) ⌝ }
     ensures { λ _. ⌜ now (out .exit) ≡ images.handedOut port (portAt b port) mark (now (spdu .entry)) (now (safe .entry)) (now (out .entry)) ⌝ }
 {
-    let a = call_answer(port, port_at(b, port));
+    let p = port_at(b, port);
+    let a = port_answer(port, p.setting);
     if answer::is_taken(a) {
         let part = handed_on(b, port, mark, spdu, safe);
         if part.len() <= out.len() {

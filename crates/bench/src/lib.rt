@@ -1,21 +1,40 @@
 // The bench: eight ports, and every call on them (document 01). A call takes whatever it is given and has an answer; one that is refused
 // changes nothing and writes nothing.
+//
+// What a call asks of its port (acts.rt) and what a happening makes of it (turns.rt) are each worked out in one place, by value. A call stores what
+// comes out; so does whoever keeps the ports in columns (columns.rt) and has many happenings for them, as a session does.
+mod acts;
 mod at_port;
+mod by_t4;
 mod calls;
+mod columns;
 mod images;
 mod shown;
+mod turns;
 
+pub use acts::clock_act;
+pub use acts::operator_act;
+pub use acts::parameters_act;
+pub use acts::place_of;
+pub use acts::response_act;
 use answer::Answer;
 pub use at_port::new_bench;
 use block::Params;
+pub use by_t4::is_regular;
+pub use by_t4::regular;
 pub use calls::clock;
 pub use calls::operator;
 pub use calls::receive_request;
 pub use calls::receive_response;
 pub use calls::set_parameters;
+pub use columns::all_bins_of;
+pub use columns::lives_of;
+pub use columns::packed;
+pub use columns::settings_of;
 use fs_device::Device;
 use fs_master::Master;
-use histogram::Histogram;
+pub use histogram::BIN_COUNT;
+use histogram::Totals;
 pub use images::build_response;
 pub use images::compose;
 pub use images::hand_on;
@@ -23,26 +42,70 @@ pub use images::handed_on;
 pub use images::other_part;
 pub use images::spdu_part;
 pub use images::split;
+use scl::Happening;
 use scl::Mark;
 pub use shown::bins_of;
 pub use shown::device_of;
 pub use shown::master_of;
 pub use shown::trend_of;
+pub use turns::accepted;
+pub use turns::begun;
+pub use turns::turn;
 
-// A port with both its ends. `running`: parameters have been accepted.
+pub const PORT_COUNT: usize = 8;
+
+// What only an accepted block moves. `running`: parameters have been accepted.
+#[repr(C)]
+pub struct Setting {
+    pub params: Params,
+    pub running: bool,
+}
+
+// What a happening moves: both ends, and all of the histogram but its bins.
+#[repr(C)]
+pub struct Live {
+    pub device: Device,
+    pub master: Master,
+    pub totals: Totals,
+}
+
+// A port.
 #[repr(C)]
 pub struct Port {
-    pub running: bool,
-    pub params: Params,
-    pub master: Master,
-    pub device: Device,
-    pub histogram: Histogram,
+    pub setting: Setting,
+    pub live: Live,
+    pub bins: [u32; BIN_COUNT],
 }
 
 // Ports 1 to 8.
 #[repr(C)]
 pub struct Bench {
-    pub ports: [Port; 8],
+    pub ports: [Port; PORT_COUNT],
+}
+
+// Where the port of a number stands: `outside` says that no port has the number, and then the index is 0.
+pub struct Place {
+    pub index: usize,
+    pub outside: bool,
+}
+
+// What a call with a reading asks of the port that it addresses.
+pub enum Act {
+    // Nothing: it is refused.
+    Refused(Answer),
+    // To take these parameters.
+    Accepted(Params),
+    // To let this happen.
+    Happens(Happening),
+}
+
+// What a happening makes of a port: what it moves, whether it raises a bin and which, and what each end hands on.
+pub struct Turned {
+    pub live: Live,
+    pub counts: bool,
+    pub bin: usize,
+    pub master: Mark,
+    pub device: Mark,
 }
 
 // What a call says: its answer, and for each end what is handed on and whether the end releases after the call. In a refusal nothing is
@@ -76,7 +139,7 @@ pub struct Handed {
 // The bins of a port with their total and the frozen mark.
 pub struct Bins {
     pub answer: Answer,
-    pub bins: [u32; 32],
+    pub bins: [u32; BIN_COUNT],
     pub total: u32,
     pub frozen: bool,
 }

@@ -1,27 +1,36 @@
 // The calls that show a port.
 ghost use mathlib.Core.Path.{_≡_};
-ghost use Rattle.bench.specs.Ports.{portAt};
+ghost use Rattle.bench.specs.Ports.{histogramOf, portAt};
 ghost use Rattle.bench.specs.Shown as shown;
 use crate::Bench;
 use crate::Bins;
 use crate::DeviceShown;
 use crate::MasterShown;
 use crate::Port;
-use crate::at_port::call_answer;
+use crate::acts::port_answer;
 use crate::at_port::new_port;
 use crate::calls::port_at;
 use answer::Answer;
 use answer::refuse;
+use histogram::Histogram;
 use histogram::Trend;
 
 fn seen(port: u8, p: Port) -> Port
     ensures { λ r. ⌜ r ≡ shown.seen port p ⌝ }
 {
-    if answer::is_taken(call_answer(port, p)) {
+    if answer::is_taken(port_answer(port, p.setting)) {
         p
     } else {
         new_port()
     }
+}
+
+fn histogram_of(p: Port) -> Histogram
+    ensures { λ r. ⌜ r ≡ histogramOf p ⌝ }
+{
+    let totals = p.live.totals;
+    let bins = p.bins;
+    histogram::with_bins(totals, bins)
 }
 
 // The trend point; three zeros in a refusal.
@@ -30,12 +39,12 @@ pub fn trend_of(b: Bench, port: u8) -> Trend
 {
     let p = port_at(b, port);
     let shown = seen(port, p);
-    let trend = histogram::trend_of(shown.histogram);
+    let trend = histogram::trend_of(histogram_of(shown));
     let point = trend.point;
     Trend {
         answer: refuse(
-            call_answer(port, p),
-            p.histogram.total == 0,
+            port_answer(port, p.setting),
+            p.live.totals.total == 0,
             Answer::NoSamples,
         ),
         point,
@@ -47,36 +56,55 @@ pub fn bins_of(b: Bench, port: u8) -> Bins
 {
     let p = port_at(b, port);
     let shown = seen(port, p);
-    let h = shown.histogram;
+    let h = histogram_of(shown);
     let bins = h.bins;
     Bins {
-        answer: call_answer(port, p),
+        answer: port_answer(port, p.setting),
         bins,
         total: h.total,
         frozen: histogram::frozen(h),
     }
 }
 
+// One end of a port is copied by itself, not with all of the port.
+fn master_at(port: u8, p: Port) -> MasterShown
+    ensures { λ r. ⌜ r ≡ shown.masterOf port p ⌝ }
+{
+    let answer = port_answer(port, p.setting);
+    if answer::is_taken(answer) {
+        let master = p.live.master;
+        MasterShown { answer, master }
+    } else {
+        MasterShown {
+            answer,
+            master: fs_master::first(0),
+        }
+    }
+}
+
 pub fn master_of(b: Bench, port: u8) -> MasterShown
     ensures { λ r. ⌜ r ≡ shown.masterOf port (portAt b port) ⌝ }
 {
-    let p = port_at(b, port);
-    let shown = seen(port, p);
-    let master = shown.master;
-    MasterShown {
-        answer: call_answer(port, p),
-        master,
+    master_at(port, port_at(b, port))
+}
+
+fn device_at(port: u8, p: Port) -> DeviceShown
+    ensures { λ r. ⌜ r ≡ shown.deviceOf port p ⌝ }
+{
+    let answer = port_answer(port, p.setting);
+    if answer::is_taken(answer) {
+        let device = p.live.device;
+        DeviceShown { answer, device }
+    } else {
+        DeviceShown {
+            answer,
+            device: fs_device::first(0),
+        }
     }
 }
 
 pub fn device_of(b: Bench, port: u8) -> DeviceShown
     ensures { λ r. ⌜ r ≡ shown.deviceOf port (portAt b port) ⌝ }
 {
-    let p = port_at(b, port);
-    let shown = seen(port, p);
-    let device = shown.device;
-    DeviceShown {
-        answer: call_answer(port, p),
-        device,
-    }
+    device_at(port, port_at(b, port))
 }

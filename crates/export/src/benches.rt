@@ -9,6 +9,7 @@ ghost use Rattle.bench.specs.Images as images;
 ghost use Rattle.bench.specs.Shown as shown;
 ghost use Rattle.export.specs.Benches as told;
 use crate::histograms::NumberedTrend;
+use bench::BIN_COUNT;
 use bench::Bench;
 use bench::BenchAfter;
 use fs_device::Device;
@@ -47,7 +48,7 @@ pub struct HandedTold {
 #[repr(C)]
 pub struct BinsTold {
     pub number: u8,
-    pub bins: [u32; 32],
+    pub bins: [u32; BIN_COUNT],
     pub total: u32,
     pub frozen: bool,
 }

@@ -1,5 +1,7 @@
 // One happening at the FS-Device.
 ghost use mathlib.Core.Path.{_≡_};
+ghost use mathlib.Core.Bool.{false};
+ghost use Rattle.fs_device.specs.Table40 as table40;
 ghost use Rattle.fs_device.specs.Calls as calls;
 use crate::Device;
 use crate::Outcome;
@@ -9,12 +11,17 @@ use crate::table40::arrival_row;
 use crate::table40::checked;
 use crate::table40::is_old;
 use crate::table40::is_taken;
+use crate::table40::t30_t31;
 use crate::table40::taken;
-use crate::table40::timed_out;
-use crate::table40::watchdog_row;
 use scl::Check;
 use scl::Happening;
 use scl::Request;
+
+// The device once its watchdog has been judged, with the row that did it.
+struct Judged {
+    row: Row,
+    device: Device,
+}
 
 fn quiet(d: Device, watchdog: Row, old: bool) -> Outcome
     ensures { λ r. ⌜ r ≡ calls.quiet d watchdog old ⌝ }
@@ -50,21 +57,47 @@ fn arrived(d: Device, watchdog: Row, at: u32, q: Request, failed: Check) -> Outc
 fn received(d: Device, watchdog: Row, at: u32, q: Request) -> Outcome
     ensures { λ r. ⌜ r ≡ calls.received d watchdog at q ⌝ }
 {
-    if is_taken(d, q) {
+    let old = is_old(d, q);
+    if is_taken(d, q, old) {
         arrived(d, watchdog, at, q, checked(d, q))
     } else {
-        quiet(d, watchdog, is_old(d, q))
+        quiet(d, watchdog, old)
     }
 }
 
-// The device once its watchdog has been judged: T30, T31 or no row.
-fn judged(d: Device, w: u16, at: u32) -> Device
-    ensures { λ r. ⌜ r ≡ calls.judged d w at ⌝ }
+// DTimeout: T31 from 24, T30 from 26.
+fn timed_out(d: Device, at: u32) -> Judged
+    ensures { λ r. ⌜ (r .row ≡ table40.timeoutRow (d .state)) × (r .device ≡ table40.acted d (table40.timeoutRow (d .state)) at false false) ⌝ }
+{
+    if d.state == 24 {
+        return Judged {
+            row: Row::T31,
+            device: t30_t31(d, at),
+        };
+    }
+    if d.state == 26 {
+        Judged {
+            row: Row::T30,
+            device: t30_t31(d, at),
+        }
+    } else {
+        Judged {
+            row: Row::Stay,
+            device: d,
+        }
+    }
+}
+
+fn watched(d: Device, w: u16, at: u32) -> Judged
+    ensures { λ r. ⌜ (r .row ≡ table40.watchdogRow d w at) × (r .device ≡ calls.judged d w at) ⌝ }
 {
     if d.runs & scl::expired(at, d.DTimer, w) {
         timed_out(d, at)
     } else {
-        d
+        Judged {
+            row: Row::Stay,
+            device: d,
+        }
     }
 }
 
@@ -73,8 +106,9 @@ pub fn step(d: Device, w: u16, happening: Happening) -> Outcome
     ensures { λ r. ⌜ r ≡ calls.stepOf d w happening ⌝ }
 {
     let at = scl::reading(happening);
-    let row = watchdog_row(d, w, at);
-    let judged = judged(d, w, at);
+    let after = watched(d, w, at);
+    let row = after.row;
+    let judged = after.device;
     match happening {
         Happening::Response(_, _) => quiet(judged, row, false),
         Happening::Request(_, q) => received(judged, row, at, q),

@@ -1,7 +1,7 @@
 // Guards and actions of 000 Table 40.
 ghost use mathlib.Core.Path.{_≡_};
 ghost use Prim.Native.Nat.{_-_};
-ghost use mathlib.Core.Bool.{cond, false};
+ghost use mathlib.Core.Bool.{cond};
 ghost use Rattle.fs_device.specs.Table40 as table40;
 use crate::Device;
 use crate::Row;
@@ -31,38 +31,18 @@ pub fn first(at: u32) -> Device
     }
 }
 
-fn timeout_row(state: u8) -> Row
-    ensures { λ r. ⌜ r ≡ table40.timeoutRow state ⌝ }
-{
-    if state == 24 {
-        return Row::T31;
-    }
-    if state == 26 { Row::T30 } else { Row::Stay }
-}
-
-pub(crate) fn watchdog_row(d: Device, w: u16, at: u32) -> Row
-    ensures { λ r. ⌜ r ≡ table40.watchdogRow d w at ⌝ }
-{
-    if d.runs & scl::expired(at, d.DTimer, w) {
-        timeout_row(d.state)
-    } else {
-        Row::Stay
-    }
-}
-
 pub(crate) fn is_old(d: Device, q: Request) -> bool
     ensures { λ r. ⌜ r ≡ table40.isOld d q ⌝ }
 {
     !q.all_zero & ((d.state == 24) | (d.state == 26)) & (q.MCount == d.MCount)
 }
 
-pub(crate) fn is_taken(d: Device, q: Request) -> bool
+pub(crate) fn is_taken(d: Device, q: Request, old: bool) -> bool
+    requires { ⌜ old ≡ table40.isOld d q ⌝ }
     ensures { λ r. ⌜ r ≡ table40.isTaken d q ⌝ }
 {
     let waits = (d.state == 21) | (d.state == 24) | (d.state == 26);
-    let zeros = q.all_zero;
-    let old = is_old(d, q);
-    !zeros & waits & !old
+    !q.all_zero & waits & !old
 }
 
 pub(crate) fn checked(d: Device, q: Request) -> Check
@@ -182,7 +162,7 @@ fn t29(d: Device, at: u32, CommErr: bool) -> Device
     n
 }
 
-fn t30_t31(d: Device, at: u32) -> Device
+pub(crate) fn t30_t31(d: Device, at: u32) -> Device
     ensures { λ r. ⌜ r ≡ table40.t30t31 d at ⌝ }
 {
     let mut n = d;
@@ -198,17 +178,6 @@ fn t30_t31(d: Device, at: u32) -> Device
     n.DCount_i = scl::inverted_count(d.MCount);
     n.state = 26;
     n
-}
-
-// What `acted` does for timeout_row's row, written apart: `acted` then has one caller and is compiled into it.
-pub(crate) fn timed_out(d: Device, at: u32) -> Device
-    ensures { λ r. ⌜ r ≡ table40.acted d (table40.timeoutRow (d .state)) at false false ⌝ }
-{
-    if (d.state == 24) | (d.state == 26) {
-        t30_t31(d, at)
-    } else {
-        d
-    }
 }
 
 pub(crate) fn acted(d: Device, row: Row, at: u32, setSD: bool, CommErr: bool) -> Device

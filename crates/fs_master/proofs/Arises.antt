@@ -24,12 +24,14 @@ use Rattle.fs_master.specs.declared.Row.the-variants.{Stay, T4, T7, T8, 
 use Rattle.fs_master.specs.Table38.{watchdogRow, isOld, isTaken, checked, from8, arrivalRow, taken, sampleFrom, t4, t7, t8, t11, t12, t13, t14, acted, signalled}
 use Rattle.fs_master.specs.Calls.{judged, quiet, arrived, received, watched, operated, stepOf}
 use Rattle.fs_master.specs.History.{FreshBy, Held, masterAfter, hasPassed, movedMaster, movedOutcome, signalsAfter, signals, Fault, None, Open, Asked, faultAfter, fault}
+use Rattle.fs_master.specs.Regular.{isRegular}
 use Rattle.fs_master.proofs.Rows as rows
 use Rattle.fs_master.proofs.Release as release
 use Rattle.fs_master.proofs.Acknowledge as acknowledge
 use Rattle.fs_master.proofs.Counts as counts
 use Rattle.fs_master.proofs.Faults as faults
 use Rattle.fs_master.proofs.Moved as moving
+use Rattle.fs_master.proofs.Regulars as regulars
 
 -- a response of this DCount_i, with SDset, and whether port and signature hold
 abbrev response : ℕ → Bool → Bool → Bool → Response
@@ -159,13 +161,15 @@ pub record Met : Type 0 where
   count-below : stepOf (after 6) 100 releasingAgain .master .MCount ≤ 7
   held : Held (stepOf (after 0) 100 releasing .master)
   in-time : watchdogRow (after 1) 100 20 ≡ Stay
+  is-regular : isRegular (after 7) 100 440 (set 5) ≡ true
+  regular-step : stepOf (after 7) 100 (happening.Response 440 (set 5)) ≡ record { master = t4 (taken (after 7) (set 5)) 440 true; watchdog = Stay; arrival = T4; check = check.None; old = false; passed = true; sent = 430; mark = Safe }
   moved-step : stepOf (movedMaster 5 (after 1)) 100 (movedHappening 5 (happening.Clock 20)) ≡ movedOutcome 5 (stepOf (after 1) 100 (happening.Clock 20))
   requested : after 5 .«ChFAckReq_S» ≡ true
   acknowledged : fault 0 100 (first 7) ≡ None
   passed-first : hasPassed 0 100 (first 1) ≡ true
 
 pub premises-met : Met
-unfolding masterAfter fault faultAfter signals signalsAfter stepOf watched operated quiet received arrived judged acted t4 t7 t8 t11 t12 t13 t14 taken isOld isTaken checked from8 arrivalRow watchdogRow signalled sampleFrom elapsedOf
+unfolding isRegular masterAfter fault faultAfter signals signalsAfter stepOf watched operated quiet received arrived judged acted t4 t7 t8 t11 t12 t13 t14 taken isOld isTaken checked from8 arrivalRow watchdogRow signalled sampleFrom elapsedOf
 premises-met = record {
   fresh-only = release.fresh-only (after 0) 100 releasing refl;
   fresh-if =
@@ -184,6 +188,8 @@ premises-met = record {
   count-below = counts.count-below (after 6) 100 releasingAgain (omega arith);
   held = counts.held (after 0) 100 releasing (counts.first-held 0);
   in-time = rows.in-time (after 1) 100 20 (omega arith);
+  is-regular = refl;
+  regular-step = regulars.regular-step (after 7) 100 440 (set 5) refl;
   moved-step = moving.moved-step 5 (after 1) 100 (happening.Clock 20) (omega arith) (omega arith);
   requested = acknowledge.requested 0 100 (first 5) refl;
   acknowledged = acknowledge.acknowledged 0 100 (first 7) refl;

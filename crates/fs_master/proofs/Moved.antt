@@ -59,6 +59,10 @@ module _ (k : ℕ) where
   unfolding movedMaster
   moved-released m = refl
 
+  moved-sent : (m : Master) → movedMaster k m .sample ≡ moved k (m .sample)
+  unfolding movedMaster
+  moved-sent m = refl
+
   moved-old : (m : Master) (f : Response) → isOld (movedMaster k m) f ≡ isOld m f
   unfolding isOld movedMaster
   moved-old m f = refl
@@ -66,7 +70,7 @@ module _ (k : ℕ) where
   moved-arrived : (m : Master) (r : Row) (at : ℕ) (f : Response) (failed : Check) → arrived (movedMaster k m) r (moved k at) f failed ≡ movedOutcome k (arrived m r at f failed)
   unfolding arrived movedOutcome
   moved-arrived m r at f failed =
-      simp (moved-arrival m (hasFaults (isFailure failed) f), moved-taken m f, moved-act (taken m f) (arrivalRow m (hasFaults (isFailure failed) f)) at (f .SDset), moved-old m f, moved-released)
+      simp (moved-arrival m (hasFaults (isFailure failed) f), moved-taken m f, moved-act (taken m f) (arrivalRow m (hasFaults (isFailure failed) f)) at (f .SDset), moved-old m f, moved-released, moved-sent)
 
   moved-taking : (m : Master) (f : Response) → isTaken (movedMaster k m) f ≡ isTaken m f
   unfolding isTaken isOld movedMaster

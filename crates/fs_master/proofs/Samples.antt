@@ -60,6 +60,19 @@ step-start m w (happening.Request at q) = stays (judged m w at) at
 step-start m w (happening.Clock at) = stays (judged m w at) at
 step-start m w (happening.Operator at «setSD_C» «ChFAck_C») = stays (judged m w at) at
 
+-- ---- the start that a response's time runs from: the one that stands once the watchdog has been judged
+
+received-sent : (m : Master) (r : Row) (at : ℕ) (f : Response) → received m r at f .sent ≡ m .sample
+unfolding received arrived quiet
+received-sent m r at f = cond-case (λ (o : Outcome). o .sent ≡ m .sample) (isTaken m f) (λ _. refl) (λ _. refl)
+
+pub stepOf-sent : (m : Master) (w : ℕ) (h : Happening) → stepOf m w h .sent ≡ judged m w (readingOf h) .sample
+unfolding stepOf watched operated quiet signalled
+stepOf-sent m w (happening.Response at f) = received-sent (judged m w at) (watchdogRow m w at) at f
+stepOf-sent m w (happening.Request at q) = refl
+stepOf-sent m w (happening.Clock at) = refl
+stepOf-sent m w (happening.Operator at «setSD_C» «ChFAck_C») = refl
+
 -- ---- the watchdog's row
 
 received-watchdog : (m : Master) (r : Row) (at : ℕ) (f : Response) → received m r at f .watchdog ≡ r

@@ -17,7 +17,7 @@ use Rattle.fs_master.specs.Table38.{watchdogRow, isOld, isTaken, checked
 unfoldable pub judged : Master → ℕ → ℕ → Master
 judged m w at = acted m (watchdogRow m w at) at false
 
--- no SPDU led to a row (R13a): the watchdog's row, and whether one came that was old
+-- no SPDU led to a row (R13a): the watchdog's row, and whether one came that was old. A sample's time runs from what is kept after that row (R17)
 unfoldable pub quiet : Master → Row → Bool → Outcome
 quiet m watchdog old = record {
   master = m;
@@ -26,6 +26,7 @@ quiet m watchdog old = record {
   check = check.None;
   old = old;
   passed = false;
+  sent = m .sample;
   mark = markOf false (m .released);
 }
 
@@ -41,6 +42,7 @@ arrived m watchdog at f failed =
       check = failed;
       old = isOld m f;
       passed = not (isFailure failed);
+      sent = m .sample;
       mark = markOf true (after .released);
     }
 

@@ -172,5 +172,6 @@ movedOutcome k o = record {
   check = o .check;
   old = o .old;
   passed = o .passed;
+  sent = moved k (o .sent);
   mark = o .mark;
 }

@@ -1,5 +1,7 @@
 // One happening at the FS-Master.
 ghost use mathlib.Core.Path.{_≡_};
+ghost use mathlib.Core.Bool.{false};
+ghost use Rattle.fs_master.specs.Table38 as table38;
 ghost use Rattle.fs_master.specs.Calls as calls;
 use crate::Master;
 use crate::Outcome;
@@ -11,12 +13,18 @@ use crate::table38::has_faults;
 use crate::table38::is_old;
 use crate::table38::is_taken;
 use crate::table38::signalled;
+use crate::table38::t8;
+use crate::table38::t14;
 use crate::table38::taken;
-use crate::table38::timed_out;
-use crate::table38::watchdog_row;
 use scl::Check;
 use scl::Happening;
 use scl::Response;
+
+// The master once its watchdog has been judged, with the row that did it.
+struct Judged {
+    row: Row,
+    master: Master,
+}
 
 fn quiet(m: Master, watchdog: Row, old: bool) -> Outcome
     ensures { λ r. ⌜ r ≡ calls.quiet m watchdog old ⌝ }
@@ -28,11 +36,13 @@ fn quiet(m: Master, watchdog: Row, old: bool) -> Outcome
         check: Check::None,
         old,
         passed: false,
+        sent: m.sample,
         mark: scl::mark_of(false, m.released),
     }
 }
 
-fn arrived(m: Master, watchdog: Row, at: u32, f: Response, failed: Check) -> Outcome
+fn arrived(m: Master, watchdog: Row, at: u32, f: Response, old: bool, failed: Check) -> Outcome
+    requires { ⌜ old ≡ table38.isOld m f ⌝ }
     ensures { λ r. ⌜ r ≡ calls.arrived m watchdog at f failed ⌝ }
 {
     let MCommErr = scl::is_failure(failed);
@@ -43,8 +53,9 @@ fn arrived(m: Master, watchdog: Row, at: u32, f: Response, failed: Check) -> Out
         watchdog,
         arrival: row,
         check: failed,
-        old: is_old(m, f),
+        old,
         passed: !MCommErr,
+        sent: m.sample,
         mark: scl::mark_of(true, after.released),
     }
 }
@@ -52,21 +63,47 @@ fn arrived(m: Master, watchdog: Row, at: u32, f: Response, failed: Check) -> Out
 fn received(m: Master, watchdog: Row, at: u32, f: Response) -> Outcome
     ensures { λ r. ⌜ r ≡ calls.received m watchdog at f ⌝ }
 {
-    if is_taken(m, f) {
-        arrived(m, watchdog, at, f, checked(m, f))
+    let old = is_old(m, f);
+    if is_taken(m, f, old) {
+        arrived(m, watchdog, at, f, old, checked(m, f))
     } else {
-        quiet(m, watchdog, is_old(m, f))
+        quiet(m, watchdog, old)
     }
 }
 
-// The master once its watchdog has been judged: T8, T14 or no row.
-fn judged(m: Master, w: u16, at: u32) -> Master
-    ensures { λ r. ⌜ r ≡ calls.judged m w at ⌝ }
+// MTimeout: T8 from 5, T14 from 7.
+fn timed_out(m: Master, at: u32) -> Judged
+    ensures { λ r. ⌜ (r .row ≡ table38.timeoutRow (m .state)) × (r .master ≡ table38.acted m (table38.timeoutRow (m .state)) at false) ⌝ }
+{
+    if m.state == 5 {
+        return Judged {
+            row: Row::T8,
+            master: t8(m, at),
+        };
+    }
+    if m.state == 7 {
+        Judged {
+            row: Row::T14,
+            master: t14(m, at),
+        }
+    } else {
+        Judged {
+            row: Row::Stay,
+            master: m,
+        }
+    }
+}
+
+fn watched(m: Master, w: u16, at: u32) -> Judged
+    ensures { λ r. ⌜ (r .row ≡ table38.watchdogRow m w at) × (r .master ≡ calls.judged m w at) ⌝ }
 {
     if m.runs & scl::expired(at, m.MTimer, w) {
         timed_out(m, at)
     } else {
-        m
+        Judged {
+            row: Row::Stay,
+            master: m,
+        }
     }
 }
 
@@ -75,8 +112,9 @@ pub fn step(m: Master, w: u16, happening: Happening) -> Outcome
     ensures { λ r. ⌜ r ≡ calls.stepOf m w happening ⌝ }
 {
     let at = scl::reading(happening);
-    let row = watchdog_row(m, w, at);
-    let judged = judged(m, w, at);
+    let after = watched(m, w, at);
+    let row = after.row;
+    let judged = after.master;
     match happening {
         Happening::Response(_, f) => received(judged, row, at, f),
         Happening::Request(_, _) => quiet(judged, row, false),

@@ -1,7 +1,10 @@
 // The FS-Master's SCL machine: 000 Table 38.
+mod by_t4;
 mod calls;
 mod table38;
 
+pub use by_t4::is_regular;
+pub use by_t4::regular;
 pub use calls::step;
 pub use table38::first;
 pub use table38::row_number;
@@ -42,7 +45,7 @@ pub enum Row {
 }
 
 // What a call did at the FS-Master: the watchdog's row, then the row of the SPDU that came, the check that failed first, whether the SPDU was
-// old and whether it passed, and what is handed on.
+// old and whether it passed, from which reading a sample's time runs once the watchdog has been judged, and what is handed on.
 pub struct Outcome {
     pub master: Master,
     pub watchdog: Row,
@@ -50,5 +53,6 @@ pub struct Outcome {
     pub check: scl::Check,
     pub old: bool,
     pub passed: bool,
+    pub sent: u32,
     pub mark: scl::Mark,
 }

@@ -1,6 +1,5 @@
 // Guards and actions of 000 Table 38.
 ghost use mathlib.Core.Path.{_≡_};
-ghost use mathlib.Core.Bool.{false};
 ghost use Rattle.fs_master.specs.Table38 as table38;
 use crate::Master;
 use crate::Row;
@@ -31,26 +30,7 @@ pub fn first(at: u32) -> Master
     }
 }
 
-fn timeout_row(state: u8) -> Row
-    ensures { λ r. ⌜ r ≡ table38.timeoutRow state ⌝ }
-{
-    if state == 5 {
-        return Row::T8;
-    }
-    if state == 7 { Row::T14 } else { Row::Stay }
-}
-
-pub(crate) fn watchdog_row(m: Master, w: u16, at: u32) -> Row
-    ensures { λ r. ⌜ r ≡ table38.watchdogRow m w at ⌝ }
-{
-    if m.runs & scl::expired(at, m.MTimer, w) {
-        timeout_row(m.state)
-    } else {
-        Row::Stay
-    }
-}
-
-fn is_expected(m: Master, f: Response) -> bool
+pub(crate) fn is_expected(m: Master, f: Response) -> bool
     ensures { λ r. ⌜ r ≡ table38.isExpected m f ⌝ }
 {
     f.DCount_i == scl::inverted_count(m.MCount)
@@ -62,7 +42,8 @@ pub(crate) fn is_old(m: Master, f: Response) -> bool
     !f.all_zero & m.previous & ((f.DCount_i == m.carried) | (f.DCount_i == m.awaited))
 }
 
-pub(crate) fn is_taken(m: Master, f: Response) -> bool
+pub(crate) fn is_taken(m: Master, f: Response, old: bool) -> bool
+    requires { ⌜ old ≡ table38.isOld m f ⌝ }
     ensures { λ r. ⌜ r ≡ table38.isTaken m f ⌝ }
 {
     let in2 = m.state == 2;
@@ -71,7 +52,6 @@ pub(crate) fn is_taken(m: Master, f: Response) -> bool
     let restarted = m.MCount == 0;
     let zeros = f.all_zero;
     let expected = is_expected(m, f);
-    let old = is_old(m, f);
     !zeros & (in2 & expected | in5 & !old | in7 & (!old | restarted & expected))
 }
 
@@ -109,28 +89,14 @@ pub(crate) fn arrival_row(m: Master, faults: bool) -> Row
     if faults { Row::T7 } else { Row::T4 }
 }
 
-// Written field by field: in a copy with three octets stored, the rows that follow read four and eight octets across them, and wait for the stores.
 pub(crate) fn taken(m: Master, f: Response) -> Master
     ensures { λ r. ⌜ r ≡ table38.taken m f ⌝ }
 {
-    Master {
-        state: m.state,
-        MCount: m.MCount,
-        setSD: m.setSD,
-        SDset_S: m.SDset_S,
-        ChFAckReq: m.ChFAckReq,
-        ChFAckReq_S: m.ChFAckReq_S,
-        ChFAck_C_e: m.ChFAck_C_e,
-        setSD_C: m.setSD_C,
-        ChFAck_C: m.ChFAck_C,
-        previous: true,
-        carried: f.DCount_i,
-        awaited: scl::inverted_count(m.MCount),
-        MTimer: m.MTimer,
-        runs: m.runs,
-        sample: m.sample,
-        released: m.released,
-    }
+    let mut n = m;
+    n.previous = true;
+    n.carried = f.DCount_i;
+    n.awaited = scl::inverted_count(m.MCount);
+    n
 }
 
 fn sample_from(m: Master, count: u8, at: u32) -> u32
@@ -139,7 +105,7 @@ fn sample_from(m: Master, count: u8, at: u32) -> u32
     if count == m.MCount { m.sample } else { at }
 }
 
-fn t4(m: Master, at: u32, SDset: bool) -> Master
+pub(crate) fn t4(m: Master, at: u32, SDset: bool) -> Master
     ensures { λ r. ⌜ r ≡ table38.t4 m at SDset ⌝ }
 {
     let mut n = m;
@@ -169,7 +135,7 @@ fn t7(m: Master, at: u32) -> Master
     n
 }
 
-fn t8(m: Master, at: u32) -> Master
+pub(crate) fn t8(m: Master, at: u32) -> Master
     ensures { λ r. ⌜ r ≡ table38.t8 m at ⌝ }
 {
     let mut n = m;
@@ -238,7 +204,7 @@ fn t13(m: Master, at: u32) -> Master
     n
 }
 
-fn t14(m: Master, at: u32) -> Master
+pub(crate) fn t14(m: Master, at: u32) -> Master
     ensures { λ r. ⌜ r ≡ table38.t14 m at ⌝ }
 {
     let mut n = m;
@@ -254,16 +220,6 @@ fn t14(m: Master, at: u32) -> Master
     n.runs = true;
     n.state = 7;
     n
-}
-
-// What `acted` does for timeout_row's row, written apart: `acted` then has one caller and is compiled into it.
-pub(crate) fn timed_out(m: Master, at: u32) -> Master
-    ensures { λ r. ⌜ r ≡ table38.acted m (table38.timeoutRow (m .state)) at false ⌝ }
-{
-    if m.state == 5 {
-        return t8(m, at);
-    }
-    if m.state == 7 { t14(m, at) } else { m }
 }
 
 pub(crate) fn acted(m: Master, row: Row, at: u32, SDset: bool) -> Master

@@ -43,7 +43,7 @@ module _ {w : ℕ} {samples : List ℕ} {h : Histogram} (small : w ≤ 65535) (r
       record {
         size = simp length-set (counts .size);
         bins = λ i b. bins-at i b (eqb (binOf w t) i) refl ∙ sym (in-bin-more t w i samples);
-        total = simp (length-append, counts .total);
+        total = omega (arith, counts .total, length-append samples (t ∷ []));
         sum = omega (arith, fits small within (omega arith) counts .sum, counts .sum, sum-more t samples);
         lowest = simp (counts .total, counts .lowest) (sym (lowest-more t samples));
         highest = simp (counts .total, counts .highest) (sym (highest-more t samples));

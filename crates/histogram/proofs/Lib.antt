@@ -1,4 +1,5 @@
 pub mod Samples
+pub mod Parts
 pub mod Counting
 pub mod Trends
 pub mod Arises

@@ -1,12 +1,10 @@
 // The response histogram of a port and its trend point (document 01, "The histogram and the trend").
 ghost use mathlib.Core.Path.{_≡_};
 ghost use mathlib.Core.Bool.{cond};
-ghost use Prim.Native.Nat.{ℕ, _+_, _%_, _^_, min, max};
-ghost use mathlib.Core.List.{List};
+ghost use Prim.Native.Nat.{min, max};
 ghost use lib.Dec.{eqb};
-ghost use lib.ListN.{getD, set};
 ghost use Rattle.histogram.specs.Samples.{binOf, limit};
-ghost use Rattle.histogram.specs.Counted.{frozenOf, clearedOf, totalsOf, withBins, countedOf};
+ghost use Rattle.histogram.specs.Counted.{frozenOf, clearedOf, totalsOf, withBins, raisedIf, totalledOf, countedOf};
 ghost use Rattle.histogram.specs.Trends.{meanOf, pointOf, trendOf};
 use answer::Answer;
 
@@ -25,12 +23,19 @@ pub struct Histogram {
     pub highest: u16,
 }
 
-// All of a histogram but its bins, for a caller that keeps the bins elsewhere. In this order it has no padding, which would be copied too.
+// All of a histogram but its bins, for a caller that keeps the bins elsewhere.
+#[repr(C)]
 pub struct Totals {
     pub sum: u64,
     pub total: u32,
     pub lowest: u16,
     pub highest: u16,
+}
+
+// The totals after a sample, and whether it was counted.
+pub struct Sampled {
+    pub totals: Totals,
+    pub counted: bool,
 }
 
 // The mean, and the lowest and the highest sample, in ms.
@@ -47,7 +52,7 @@ pub struct Trend {
     pub point: TrendPoint,
 }
 
-// The bin of the time t at the watchdog time w: below 32 where t is at most w.
+// The bin of the time t at the watchdog time w: below BIN_COUNT where t is at most w.
 pub fn bin(w: u16, t: u32) -> usize
     ensures { λ r. ⌜ r ≡ binOf w t ⌝ }
 {
@@ -55,7 +60,7 @@ pub fn bin(w: u16, t: u32) -> usize
 }
 
 // Whether a total has reached the limit.
-fn reached(total: u32) -> bool
+pub fn reached(total: u32) -> bool
     ensures { λ r. ⌜ r ≡ eqb total limit ⌝ }
 {
     total == LIMIT
@@ -80,17 +85,18 @@ pub fn cleared() -> Histogram
     }
 }
 
-// One more in bin i; past the last bin nothing changes.
-fn raised(bins: [u32; BIN_COUNT], i: usize) -> [u32; BIN_COUNT]
-    ensures { λ r. ⌜ r ≡ set bins i ((getD bins i 0 + 1) % 2 ^ 32) ⌝ }
+// One more in bin i where a sample was counted; past the last bin nothing changes.
+pub fn raised(bins: [u32; BIN_COUNT], counted: bool, i: usize) -> [u32; BIN_COUNT]
+    ensures { λ r. ⌜ r ≡ raisedIf counted bins i ⌝ }
 {
-    if i < BIN_COUNT {
-        let mut later = bins;
-        later[i] = std::num::wrapping_add_u32(later[i], 1);
-        later
-    } else {
-        bins
+    if counted {
+        if i < BIN_COUNT {
+            let mut later = bins;
+            later[i] = std::num::wrapping_add_u32(later[i], 1);
+            return later;
+        }
     }
+    bins
 }
 
 fn lower(a: u16, b: u16) -> u16
@@ -135,19 +141,25 @@ pub fn with_bins(totals: Totals, bins: [u32; BIN_COUNT]) -> Histogram
     }
 }
 
-// What one more sample t makes of the totals, whatever the bins and their edges.
-pub fn totalled(totals: Totals, t: u16) -> Totals
-    ensures { λ r. ⌜ ((bins : List ℕ) (w : ℕ) → r ≡ totalsOf (countedOf (withBins totals bins) w t)) ⌝ }
+// One more sample t in the totals. Where the limit is reached they stay as they are, and it is not counted.
+pub fn totalled(totals: Totals, t: u16) -> Sampled
+    ensures { λ r. ⌜ r ≡ totalledOf totals t ⌝ }
 {
     if reached(totals.total) {
-        totals
+        Sampled {
+            totals,
+            counted: false,
+        }
     } else {
         let first = totals.total == 0;
-        Totals {
-            total: totals.total + 1,
-            sum: std::num::wrapping_add_u64(totals.sum, t as u64),
-            lowest: lower(so_far(first, t, totals.lowest), t),
-            highest: higher(so_far(first, t, totals.highest), t),
+        Sampled {
+            totals: Totals {
+                total: totals.total + 1,
+                sum: std::num::wrapping_add_u64(totals.sum, t as u64),
+                lowest: lower(so_far(first, t, totals.lowest), t),
+                highest: higher(so_far(first, t, totals.highest), t),
+            },
+            counted: true,
         }
     }
 }
@@ -156,12 +168,11 @@ pub fn totalled(totals: Totals, t: u16) -> Totals
 pub fn counted(h: Histogram, w: u16, t: u16) -> Histogram
     ensures { λ r. ⌜ r ≡ countedOf h w t ⌝ }
 {
-    if frozen(h) {
-        return h;
-    }
+    let after = totalled(totals_of(h), t);
+    let totals = after.totals;
     let old = h.bins;
-    let bins = raised(old, bin(w, t as u32));
-    with_bins(totalled(totals_of(h), t), bins)
+    let bins = raised(old, after.counted, bin(w, t as u32));
+    with_bins(totals, bins)
 }
 
 // Two exact conversions and one division.

@@ -5,18 +5,36 @@ use mathlib.Core.Bool.{Bool, true, false, cond, not, _&&_}
 use mathlib.Core.List.{List, [], _∷_, _++_, append-nil}
 use lib.Dec.{leb}
 use borrow.Author.Tests.{leb-true}
+use Rattle.scl.specs.Time.{elapsedOf}
+use Rattle.scl.specs.Happenings.{readingOf}
 use Rattle.scl.specs.declared.Happening.{Happening}
 use Rattle.scl.proofs.Cases.{and-right}
 use Rattle.fs_master.specs.Calls as masters
 use Rattle.fs_master.specs.History.{masterAfter}
+use Rattle.fs_master.proofs.Samples.{stepOf-sent}
 use Rattle.histogram.specs.declared.Histogram.{Histogram}
-use Rattle.histogram.specs.Samples.{Within, none, Holds}
-use Rattle.histogram.specs.Counted.{countedOf}
+use Rattle.histogram.specs.declared.Totals.{Totals}
+use Rattle.histogram.specs.declared.Sampled.{Sampled}
+use Rattle.histogram.specs.Samples.{binOf, Within, none, Holds}
+use Rattle.histogram.specs.Counted.{withBins, raisedIf, countedOf, totalledOf}
 use Rattle.histogram.proofs.Counting.{cleared-holds, counted-holds}
+use Rattle.histogram.proofs.Parts.{counted-parts}
 use Rattle.histogram.proofs.Samples.{within-more}
-use Rattle.samples.specs.Tallied.{tallied, stepped}
+use Rattle.samples.specs.Tallied.{tallied, talliedBy, stepped}
 use Rattle.samples.specs.Samples.{timeOf, isSample, samples, histogramAfter}
 use Rattle.samples.proofs.Samples.{time-is, sample-is}
+
+-- a response is tallied in a histogram as in its two parts, the totals and the bins
+pub tallied-parts : (a : Totals) (bins : List ℕ) (w : ℕ) (anew : Bool) (t : ℕ) → tallied (withBins a bins) w anew t ≡ withBins (talliedBy a w anew t .totals) (raisedIf (talliedBy a w anew t .counted) bins (binOf w t))
+unfolding tallied talliedBy
+tallied-parts a bins w anew t = go (anew && leb t w)
+  where
+    after : Bool → Sampled
+    after b = cond b (totalledOf a t) (record { totals = a; counted = false })
+
+    go : (b : Bool) → cond b (countedOf (withBins a bins) w t) (withBins a bins) ≡ withBins (after b .totals) (raisedIf (after b .counted) bins (binOf w t))
+    go true = counted-parts a bins w t
+    go false = refl
 
 -- a happening counts where it is a sample
 module _ (at w : ℕ) (past : List Happening) (h : Happening) where
@@ -24,7 +42,7 @@ module _ (at w : ℕ) (past : List Happening) (h : Happening) where
   unfolding tallied
   counts k =
       let o = masters.stepOf (masterAfter at w past) w h in
-      ap (λ (t : ℕ). tallied k w (o .passed && not (o .old)) t) (time-is at w past h)
+      ap (λ (t : ℕ). tallied k w (o .passed && not (o .old)) t) (ap (elapsedOf (readingOf h)) (stepOf-sent (masterAfter at w past) w h) ∙ time-is at w past h)
       ∙ ap (λ (b : Bool). cond b (countedOf k w (timeOf at w past h)) k) (sym (sample-is at w past h))
 
   in-time : isSample at w past h ≡ true → timeOf at w past h ≤ w

@@ -4,7 +4,7 @@ use mathlib.Core.Path.{_≡_, refl, sym, ap, _∙_}
 use mathlib.Core.Bool.{Bool, true, false, cond, not, _&&_, _||_}
 use mathlib.Core.List.{List, [], _∷_}
 use lib.Dec.{eqb, leb}
-use borrow.Author.Tests.{eq-eqb, ne-eqb, eqb-true, eqb-false}
+use borrow.Author.Tests.{eqb-true}
 use Rattle.scl.specs.Time.{elapsedOf}
 use Rattle.scl.specs.Counts.{inverted}
 use Rattle.scl.specs.Happenings.{readingOf}
@@ -13,32 +13,12 @@ use Rattle.scl.specs.declared.Happening.the-variants as happening
 use Rattle.scl.proofs.Cases.{cond-case}
 use Rattle.scl.specs.declared.Response.{Response}
 use Rattle.fs_master.specs.declared.Master.{Master}
-use Rattle.fs_master.specs.declared.Row.{Row}
-use Rattle.fs_master.specs.Table38.{watchdogRow, isTaken, sampleFrom, t8, t14, acted, signalled, rowNumberOf}
+use Rattle.fs_master.specs.Table38.{isTaken, signalled}
 use Rattle.fs_master.specs.Calls.{judged, quiet, watched, operated, stepOf}
 use Rattle.fs_master.specs.History.{sound, masterAfter, judgedIn, passesBy}
-use Rattle.fs_master.proofs.Rows.{timeout-case}
 use Rattle.fs_master.proofs.Counts.{another-count}
 use Rattle.fs_master.proofs.Samples.{judged-start, step-start, step-passed, passes-as, step-old, Kept, judged-kept, response-kept}
 use Rattle.samples.specs.Samples.{oldBy, whileSame, sentSince, answered, timeOf, isSample, Previous, previousBy, lastTaken}
-
--- ---- the start that the code takes, by the watchdog's row
-eqb-flip : (a b : ℕ) → eqb a b ≡ eqb b a
-eqb-flip a b = go (eqb a b) refl
-  where
-    go : (t : Bool) → eqb a b ≡ t → t ≡ eqb b a
-    go true e = sym (eq-eqb b a (sym (eqb-true a b e)))
-    go false e = sym (ne-eqb b a (λ z. eqb-false a b e (sym z)))
-
-abbrev sentBy : Master → Row → ℕ → ℕ
-sentBy m row r = cond (eqb (rowNumberOf row) 0 || eqb (m .MCount) 0) (m .sample) r
-
-pub sent-judged : (m : Master) (w r : ℕ) → sentBy m (watchdogRow m w r) r ≡ judged m w r .sample
-unfolding judged acted sampleFrom t8 t14
-sent-judged m w r =
-    timeout-case (λ (row : Row). sentBy m row r ≡ acted m row r false .sample) m w r refl
-    (λ _. ap (λ (b : Bool). cond b (m .sample) r) (eqb-flip (m .MCount) 0))
-    (λ _. ap (λ (b : Bool). cond b (m .sample) r) (eqb-flip (m .MCount) 0))
 
 module _ (at w : ℕ) where
   -- ---- the stored start is the reading of the last call since the block in which MCount took another value, or the block's

@@ -1,6 +1,6 @@
 -- One happening at a port's FS-Master and its histogram: the method. What it comes to is in Samples.antt. Assumes nothing.
 use Prim.Native.Nat.{ℕ}
-use mathlib.Core.Bool.{Bool, cond, not, _&&_}
+use mathlib.Core.Bool.{Bool, false, cond, not, _&&_}
 use lib.Dec.{leb}
 use Rattle.scl.specs.Time.{elapsedOf}
 use Rattle.scl.specs.Happenings.{readingOf}
@@ -8,7 +8,9 @@ use Rattle.scl.specs.declared.Happening.{Happening}
 use Rattle.fs_master.specs.declared.Master.{Master}
 use Rattle.fs_master.specs.Calls as masters
 use Rattle.histogram.specs.declared.Histogram.{Histogram}
-use Rattle.histogram.specs.Counted.{countedOf}
+use Rattle.histogram.specs.declared.Totals.{Totals}
+use Rattle.histogram.specs.declared.Sampled.{Sampled}
+use Rattle.histogram.specs.Counted.{countedOf, totalledOf}
 use Rattle.samples.specs.declared.Moved.{Moved}
 
 -- A happening at the FS-Master. `passes_anew`: a response has come that passes and is not old (R14a), t ms after the count that it answers was
@@ -20,12 +22,16 @@ movedOf m w h =
       master = o .master;
       mark = o .mark;
       «passes_anew» = o .passed && not (o .old);
-      t = elapsedOf (readingOf h) (masters.judged m w (readingOf h) .sample);
+      t = elapsedOf (readingOf h) (o .sent);
     }
 
 -- "with elapsed t at most W"; 01's whole sentence is `samples`
 unfoldable pub tallied : Histogram → ℕ → Bool → ℕ → Histogram
 tallied h w anew t = cond (anew && leb t w) (countedOf h w t) h
+
+-- the same in two parts: the totals, with whether a bin is raised
+unfoldable pub talliedBy : Totals → ℕ → Bool → ℕ → Sampled
+talliedBy a w anew t = cond (anew && leb t w) (totalledOf a t) (record { totals = a; counted = false })
 
 -- the histogram of a port after a happening, its FS-Master before it being m
 abbrev pub stepped : Histogram → Master → ℕ → Happening → Histogram

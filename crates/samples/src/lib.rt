@@ -1,12 +1,10 @@
 // Which responses are samples, and how long each took (document 01, "The histogram and the trend").
 ghost use mathlib.Core.Path.{_≡_};
-ghost use mathlib.Core.Bool.{cond, _||_};
-ghost use lib.Dec.{eqb};
-ghost use Rattle.fs_master.specs.Table38.{rowNumberOf};
+ghost use mathlib.Core.Bool.{true};
 ghost use Rattle.samples.specs.Tallied as tally;
 use fs_master::Master;
-use fs_master::Row;
-use histogram::Histogram;
+use histogram::Sampled;
+use histogram::Totals;
 use scl::Happening;
 use scl::Mark;
 
@@ -24,34 +22,34 @@ pub fn move_master(m: Master, w: u16, happening: Happening) -> Moved
     ensures { λ r. ⌜ r ≡ tally.movedOf m w happening ⌝ }
 {
     let after = fs_master::step(m, w, happening);
-    let at = scl::reading(happening);
-    let watchdog = after.watchdog;
     let master = after.master;
     let mark = after.mark;
     Moved {
         master,
         mark,
         passes_anew: after.passed & !after.old,
-        t: scl::elapsed(at, sent_at(m, watchdog, at)),
+        t: scl::elapsed(scl::reading(happening), after.sent),
     }
 }
 
-// The histogram, with the time t of a response that passes anew where it is at most w.
-pub fn tallied(h: Histogram, w: u16, passes_anew: bool, t: u32) -> Histogram
-    ensures { λ r. ⌜ r ≡ tally.tallied h w «passes_anew» t ⌝ }
+// The totals, with the time t of a response that passes anew where it is at most w.
+pub fn tallied(totals: Totals, w: u16, passes_anew: bool, t: u32) -> Sampled
+    ensures { λ r. ⌜ r ≡ tally.talliedBy totals w «passes_anew» t ⌝ }
 {
     if passes_anew {
         if t <= w as u32 {
-            return histogram::counted(h, w, t as u16);
+            return histogram::totalled(totals, t as u16);
         }
     }
-    h
+    Sampled {
+        totals,
+        counted: false,
+    }
 }
 
-// The sample's start once the watchdog has been judged, by its row: what is kept, or this reading where T8 or T14 made MCount 0 and it was not.
-fn sent_at(m: Master, watchdog: Row, at: u32) -> u32
-    ensures { λ r. ⌜ r ≡ cond (eqb (rowNumberOf watchdog) 0 || eqb (m .MCount) 0) (m .sample) at ⌝ }
+// Whether the time t of a response that passes anew is counted.
+pub fn counts(totals: Totals, w: u16, t: u32) -> bool
+    ensures { λ r. ⌜ r ≡ tally.talliedBy totals w true t .counted ⌝ }
 {
-    let none = fs_master::row_number(watchdog) == 0;
-    if none | (m.MCount == 0) { m.sample } else { at }
+    (t <= w as u32) & !histogram::reached(totals.total)
 }

@@ -1,36 +1,26 @@
 -- The premises of the session's theorems arise, and so does each case that its definitions tell apart: by 01's own examples where they do.
 -- Assumes nothing.
 use Prim.Native.Nat.{ℕ}
-use native.Mathlib.Omega.{arith}
 use mathlib.Core.Path.{_≡_, refl}
-use mathlib.Core.Bool.{Bool, true, false}
+use mathlib.Core.Bool.{true, false}
 use mathlib.Core.List.{List, [], _∷_, _++_}
 use lib.ListN.{replicate}
 use Rattle.answer.specs.declared.Answer.the-variants.{NotRunning}
-use Rattle.block.specs.declared.Params.{Params}
 use Rattle.block.specs.Rules.{noParams}
 use Rattle.block.specs.Table22.{paramsOf}
 use Rattle.spdu.specs.Signature.{byBits}
 use Rattle.signature.specs.Signature as signing
 use Rattle.scl.specs.declared.Happening.the-variants.{Clock}
-use Rattle.fs_master.specs.declared.Master.{Master}
-use Rattle.fs_master.specs.Table38.{firstMaster}
-use Rattle.fs_device.specs.declared.Device.{Device}
-use Rattle.fs_device.specs.Table40.{firstDevice}
-use Rattle.histogram.specs.declared.Totals.{Totals}
-use Rattle.histogram.specs.Counted.{clearedOf, totalsOf}
+use Rattle.bench.specs.declared.Setting.{Setting}
+use Rattle.bench.specs.declared.Act.the-variants.{Refused, Accepted, Happens}
 use Rattle.bench.specs.Ports.{newBench, newPort, portAt, withPort, silent}
-use Rattle.bench.specs.Calls.{placed, parametersAs}
+use Rattle.bench.specs.Calls.{asked, askedByBlock, done, placed}
 use Rattle.bench.specs.History.{answerOf, after}
-use Rattle.session.specs.declared.Act.{Act}
-use Rattle.session.specs.declared.Act.the-variants.{Refused, Accepted, Happens}
 use Rattle.session.specs.declared.Stop.the-variants.{Full, Bad, Cut, End}
-use Rattle.session.specs.Text.{numeral, refusalLine, summaryLine, lineOfPort, portLines}
-use Rattle.session.specs.Run.{entry, start, applied, lineOf, closing, printed, fedOf}
+use Rattle.lines.specs.Text.{numeral, refusalLine, summaryLine}
+use Rattle.session.specs.Text.{lineOfPort, portLines}
+use Rattle.session.specs.Run.{entry, actBy, start, applied, lineOf, closing, printed, fedOf}
 use Rattle.session.specs.Blocks.{none, block}
-use Rattle.session.specs.Acts.{actBy}
-use Rattle.session.proofs.Beside.{Eight}
-use Rattle.session.proofs.Acted.{Acted, refused, accepted, happened}
 use Rattle.session.proofs.Blocks.{at-end, at-bad}
 
 -- ---- A session
@@ -46,7 +36,7 @@ three-octets = at-end ((0x53 ∷ 0x4C ∷ []) ∷ (3 ∷ []) ∷ []) (block 1 (b
 pub zero-block : printed (0x53 ∷ 0x4C ∷ 1 ∷ 1 ∷ 0 ∷ 0 ∷ 0 ∷ 0 ∷ 48 ∷ replicate 48 0)
     ≡ (114 ∷ 32 ∷ 49 ∷ 32 ∷ 99 ∷ 111 ∷ 100 ∷ 101 ∷ 32 ∷ 50 ∷ 10 ∷ [])
     ++ (114 ∷ 101 ∷ 99 ∷ 111 ∷ 114 ∷ 100 ∷ 115 ∷ 32 ∷ 49 ∷ 32 ∷ 114 ∷ 101 ∷ 102 ∷ 117 ∷ 115 ∷ 101 ∷ 100 ∷ 32 ∷ 49 ∷ 10 ∷ [])
-unfolding printed closing numeral refusalLine summaryLine lineOfPort portLines newBench newPort portAt withPort applied lineOf answerOf after placed parametersAs silent
+unfolding printed closing numeral refusalLine summaryLine lineOfPort portLines newBench newPort portAt withPort applied lineOf answerOf after placed asked askedByBlock done silent
 zero-block = refl
 
 -- a bad record, whatever follows it
@@ -70,53 +60,15 @@ each-stop = (refl, refl, refl, refl)
 abbrev good : List ℕ
 good = 0x80 ∷ 0x01 ∷ 0x31 ∷ 0x00 ∷ 0x00 ∷ 0x00 ∷ 0x00 ∷ 0x01 ∷ 0x00 ∷ 0x00 ∷ 0x00 ∷ 0x01 ∷ 0x00 ∷ 0x00 ∷ 0x00 ∷ 0x00 ∷ 0x00 ∷ 0x00 ∷ 0x00 ∷ 0x00 ∷ 0x00 ∷ 0x00 ∷ 0x01 ∷ 0x4E ∷ 0xAB ∷ 0x01 ∷ 0x01 ∷ 0x00 ∷ 0x64 ∷ 0x8E ∷ 0x54 ∷ 0x00 ∷ 0x00 ∷ 0x00 ∷ 0x00 ∷ 0xF5 ∷ 0x99 ∷ 0x01 ∷ 0x06 ∷ 0x10 ∷ 0x02 ∷ 0x00 ∷ 0x00 ∷ 0x05 ∷ 0x08 ∷ 0x01 ∷ 0x00 ∷ 0x00 ∷ []
 
+abbrev off : Setting
+off = record { params = noParams; running = false }
+
+abbrev on : Setting
+on = record { params = noParams; running = true }
+
 pub each-act :
-    (actBy byBits false noParams (entry 3 1 0 []) ≡ Refused NotRunning)
-    × (actBy byBits false noParams (entry 1 1 0 good) ≡ Accepted (paramsOf good))
-    × (actBy byBits true noParams (entry 3 1 0 []) ≡ Happens (Clock 0))
-unfolding signing.signature signing.octet signing.shiftInAll signing.shiftIn
+    (actBy byBits false off (entry 3 1 0 []) ≡ Refused NotRunning)
+    × (actBy byBits false off (entry 1 1 0 good) ≡ Accepted (paramsOf good))
+    × (actBy byBits false on (entry 3 1 0 []) ≡ Happens (Clock 0))
+unfolding asked askedByBlock signing.signature signing.octet signing.shiftInAll signing.shiftIn
 each-act = (refl, refl, refl)
-
--- the columns of a new bench
-pub eight : Eight (replicate 8 false) (replicate 8 noParams) (replicate 8 (firstMaster 0)) (replicate 8 (firstDevice 0)) (replicate 8 (totalsOf clearedOf)) (replicate 8 (replicate 32 0))
-eight = record { running = refl; params = refl; masters = refl; devices = refl; totals = refl; bins = refl }
-
-module _ (r : List Bool) (q : List Params) (m : List Master) (d : List Device) (t : List Totals) (b : List (List ℕ)) where
-  pub record Columns (a : Act) : Type 0 where
-    pub running : List Bool
-    pub params : List Params
-    pub masters : List Master
-    pub devices : List Device
-    pub totals : List Totals
-    pub bins : List (List ℕ)
-    pub acted : Acted r q m d t b 0 0 running params masters devices totals bins a
-
-  -- of eight ports, each act has columns that it leads to
-  pub each-acted : Eight r q m d t b → (a : Act) → Columns a
-  each-acted e (Refused x) = record {
-    running = _;
-    params = _;
-    masters = _;
-    devices = _;
-    totals = _;
-    bins = _;
-    acted = refused r q m d t b 0 0 e refl refl refl refl refl refl refl;
-  }
-  each-acted e (Accepted p) = record {
-    running = _;
-    params = _;
-    masters = _;
-    devices = _;
-    totals = _;
-    bins = _;
-    acted = accepted r q m d t b 0 0 e refl refl refl refl refl refl refl;
-  }
-  each-acted e (Happens h) = record {
-    running = _;
-    params = _;
-    masters = _;
-    devices = _;
-    totals = _;
-    bins = _;
-    acted = happened r q m d t b 0 0 e h (omega arith) noParams (firstMaster 0) (firstDevice 0) (totalsOf clearedOf) refl refl refl refl refl refl refl;
-  }

@@ -13,6 +13,7 @@ use Rattle.bench.specs.declared.Bench.{Bench}
 use Rattle.bench.specs.History.{Call, history, after}
 use Rattle.session.specs.declared.State.{State}
 use Rattle.record.specs.Format.{kindOf, portOf, clockOf, lengthOf, octetsOf, sizeOf, Form, nothing, part, bad, whole, form}
+use Rattle.session.specs.Text.{lineRoom}
 use Rattle.session.specs.Run.{
   Entry,
   entry,
@@ -29,7 +30,6 @@ use Rattle.session.specs.Run.{
   told,
   closing,
   printed,
-  lineRoom,
   fedOf,
 }
 use Rattle.session.specs.Blocks.{InBlocks, none, block, together}

@@ -2,24 +2,25 @@
 use Prim.Native.Nat.{ℕ, zero, suc, _+_, _-_, _/_, _≤_, _<_}
 use native.Mathlib.Omega.{arith}
 use mathlib.Core.Path.{_≡_, refl, sym, ap, _∙_}
-use mathlib.Core.Bool.{true, false}
+use mathlib.Core.Bool.{Bool, true, false}
+use mathlib.Core.Logic.{_⊎_, ⊎-elim}
 use mathlib.Core.List.{List, [], _∷_, _++_, append-assoc, append-nil}
 use lib.ListN.{length, getD, take, drop, length-drop, take-append-drop}
 use lib.Seq.{drop-drop, length-take-le}
 use Rattle.io.specs.Counts.{Counts}
 use Rattle.answer.specs.declared.Answer.{Answer}
 use Rattle.spdu.specs.Signature.{byBits}
-use Rattle.bench.specs.declared.Port.{Port}
+use Rattle.ranges.specs.Fields.{outside}
+use Rattle.bench.specs.declared.Setting.{Setting}
 use Rattle.bench.specs.declared.Bench.{Bench}
-use Rattle.bench.specs.Ports.{noPort}
+use Rattle.bench.specs.declared.Act.{Act}
+use Rattle.bench.specs.Ports.{noPort, placeOf}
 use Rattle.bench.specs.History.{answerOf, after}
 use Rattle.session.specs.declared.State.{State}
 use Rattle.session.specs.declared.Stop.{Stop}
-use Rattle.session.specs.declared.Stop.the-variants.{Full}
-use Rattle.session.specs.declared.Act.{Act}
 use Rattle.session.specs.declared.Fed.{Fed}
-use Rattle.record.specs.Format.{portOf, clockOf, lengthOf, sizeOf, Form, whole, form}
-use Rattle.session.specs.Text.{Written}
+use Rattle.record.specs.Format.{lengthOf, sizeOf, Form, whole, form}
+use Rattle.session.specs.Text.{Written, lineRoom}
 use Rattle.session.specs.Run.{
   Entry,
   entry,
@@ -27,25 +28,26 @@ use Rattle.session.specs.Run.{
   isWhole,
   recordsOf,
   restOf,
+  actBy,
   callOf,
   more,
+  plus,
+  stateOf,
   refusedAfter,
   applied,
   lineFor,
   lineOf,
   ran,
   told,
-  lineRoom,
   stopOf,
   fedOf,
   fedText,
   fronted,
 }
-use Rattle.session.specs.Acts.{actBy, answerIn, placeOf}
-use Rattle.session.specs.Columns.{stateOf}
 use Rattle.record.proofs.Form.{Found}
-use Rattle.session.proofs.Turn.{actPorts, turn-bench, turn-answer}
-use Rattle.session.proofs.Written.{agree}
+use Rattle.bench.proofs.Acted.{actPorts, answerIn}
+use Rattle.session.proofs.Turn.{turn-bench, turn-answer}
+use Rattle.lines.proofs.Written.{agree}
 
 is-whole : {f : Form} → f ≡ whole → isWhole f ≡ true
 is-whole e = rw e
@@ -132,63 +134,52 @@ module _ {st₀ st₁ : State} {s out₀ : List ℕ} {n : ℕ} {out : List ℕ} 
   unfolding fedText
   text-out = rw (← same, ← room) (out-is l none left a b)
 
+abbrev pub fed : State → ℕ → ℕ → Stop → Fed
+fed st used written stop = record { state = st; used = used; written = written; stop = stop }
+
 -- what `feed` promises of its answer r and of the buffer after it
 abbrev Promised : State → List ℕ → List ℕ → List ℕ → Fed → Type 0
 Promised st s out₀ out r = (r ≡ fedOf st s (length out₀)) × ((out ≡ fedText st s out₀) × ((r .used ≤ length s) × Counts (r .written) out))
 
-abbrev pub fed : State → ℕ → ℕ → Stop → Fed
-fed st used written stop = record { state = st; used = used; written = written; stop = stop }
+-- it is met where reading stops: there is no room for another line, or no whole record stands there
+module _ {st₀ : State} {s out₀ : List ℕ} {n : ℕ} {out : List ℕ} {st : State} {n′ at w : ℕ}
+    (l : Link st₀ s out₀ n out st n′ at w) (room : n ≡ length out₀ / lineRoom) (a : at ≤ length s) (c : w ≤ length out) where
+  stops : recordsOf n′ (drop at s) ≡ [] → restOf n′ (drop at s) ≡ drop at s → Promised st₀ s out₀ out (fed st at w (stopOf (form (drop at s))))
+  stops none left =
+      (fed-is l refl room none left a c refl, (text-out l refl room none left a c, (a, (c, sym (length-take-le w out c)))))
 
--- it is met where reading stops
-module _ {st₀ : State} {s out₀ : List ℕ} {n : ℕ} {out : List ℕ} {b : Bench} {records refused n′ at w : ℕ}
-    (l : Link st₀ s out₀ n out (stateOf b records refused) n′ at w) (room : n ≡ length out₀ / lineRoom) (a : at ≤ length s) (c : w ≤ length out)
-    {b′ : Bench} (same : b′ ≡ b) {r : Fed} where
-  stops : (f : Form) → form (drop at s) ≡ f → recordsOf n′ (drop at s) ≡ [] → restOf n′ (drop at s) ≡ drop at s
-      → r ≡ fed (stateOf b′ records refused) at w (stopOf f) → Promised st₀ s out₀ out r
-  stops f e none left h =
-      let r-is = h ∙ ap (λ (b : Bench). fed (stateOf b records refused) at w (stopOf f)) same ∙ fed-is l refl room none left a c (ap stopOf (sym e)) in
-      (r-is, (text-out l refl room none left a c, rw h (a, (c, sym (length-take-le w out c)))))
+  pub stopped : (n′ ≡ 0) ⊎ (isWhole (form (drop at s)) ≡ false) → Promised st₀ s out₀ out (fed st at w (stopOf (form (drop at s))))
+  stopped e = ⊎-elim (λ z. stops (rw z) (rw z)) (λ o. stops (no-record n′ (drop at s) o) (no-rest n′ (drop at s) o)) e
 
-  -- with no room for a line
-  pub stops-full : form (drop at s) ≡ whole → n′ ≡ 0 → r ≡ fed (stateOf b′ records refused) at w Full → Promised st₀ s out₀ out r
-  stops-full e z h = stops whole e (rw z) (rw z) h
+-- ---- A record read, its act done and its line written
 
-  -- with no whole record
-  pub stops-at : (f : Form) → form (drop at s) ≡ f → isWhole f ≡ false → r ≡ fed (stateOf b′ records refused) at w (stopOf f) → Promised st₀ s out₀ out r
-  stops-at f e off h =
-      let o = ap isWhole e ∙ off in
-      stops f e (no-record n′ (drop at s) o) (no-rest n′ (drop at s) o) h
+-- "A, B and N stop at 2^64 - 1" (R29): one more than n more is n + 1 more
+pub more-plus : (records n : ℕ) → plus records (n + 1) ≡ more (plus records n)
+more-plus records n = omega arith
 
--- a record read, its act done and its line written
-module _ (b : Bench) (records refused m : ℕ) (e : Entry) (p : Port) (b′ : Bench) (a : Act) (x : Answer)
-    (hp : p ≡ getD (b .ports) (placeOf (e .port)) noPort)
-    (ha : a ≡ actBy byBits (p .running) (p .params) e)
-    (hb : b′ ≡ record { ports = actPorts (b .ports) (placeOf (e .port)) (e .at) a })
-    (hx : x ≡ answerIn a) (hm : m ≡ more records) where
-  answer-is : x ≡ answerOf b (callOf b e)
-  answer-is =
-      hx ∙ ap answerIn ha
-      ∙ ap (λ (p : Port). answerIn (actBy byBits (p .running) (p .params) e)) hp
-      ∙ turn-answer b e
+module _ (b : Bench) (records refused : ℕ) (e : Entry) (a : Act)
+    (ha : a ≡ actBy byBits (outside 1 8 (e .port)) (getD (b .ports) (placeOf (e .port) .index) noPort .setting) e) where
+  abbrev st : State
+  st = stateOf b records refused
 
-  bench-is : b′ ≡ after b (callOf b e)
-  bench-is =
-      hb
-      ∙ ap (λ (a : Act). record { ports = actPorts (b .ports) (placeOf (e .port)) (e .at) a }) ha
-      ∙ ap (λ (p : Port). record { ports = actPorts (b .ports) (placeOf (e .port)) (e .at) (actBy byBits (p .running) (p .params) e) }) hp
-      ∙ turn-bench b e
+  abbrev later : Bench
+  later = record { ports = actPorts (b .ports) (placeOf (e .port) .index) (e .at) a }
 
-  state-after : (r : ℕ) → r ≡ refusedAfter refused x → stateOf b′ m r ≡ applied (stateOf b records refused) e
+  answer-is : answerIn a ≡ answerOf b (callOf b e)
+  answer-is = ap answerIn ha ∙ turn-answer b e
+
+  bench-is : later ≡ after b (callOf b e)
+  bench-is = ap (λ (a : Act). record { ports = actPorts (b .ports) (placeOf (e .port) .index) (e .at) a }) ha ∙ turn-bench b e
+
+  state-after : stateOf later (more records) (refusedAfter refused (answerIn a)) ≡ applied st e
   unfolding applied
-  state-after r hr =
-      ap (λ (n : ℕ). stateOf b′ n r) hm
-      ∙ ap (λ (n : ℕ). stateOf b′ (more records) n) hr
-      ∙ ap (λ (z : Bench). stateOf z (more records) (refusedAfter refused x)) bench-is
-      ∙ ap (λ (a : Answer). stateOf (after b (callOf b e)) (more records) (refusedAfter refused a)) answer-is
+  state-after =
+      ap (λ (z : Bench). stateOf z (more records) (refusedAfter refused (answerIn a))) bench-is
+      ∙ ap (λ (x : Answer). stateOf (after b (callOf b e)) (more records) (refusedAfter refused x)) answer-is
 
-  line-after : lineFor m x ≡ lineOf (stateOf b records refused) e
+  line-after : lineFor (more records) (answerIn a) ≡ lineOf st e
   unfolding lineOf
-  line-after = ap (λ (n : ℕ). lineFor n x) hm ∙ ap (λ (a : Answer). lineFor (more records) a) answer-is
+  line-after = ap (λ (x : Answer). lineFor (more records) x) answer-is
 
 -- the record that stands at a position
 entry-found : (s : List ℕ) (at kind port clock start next : ℕ) → Found (form (drop at s)) (drop at s) at kind port clock start next
@@ -200,26 +191,20 @@ entry-found s at kind port clock start next f =
 
 module _ (st₀ : State) (s out₀ : List ℕ) (n : ℕ) (out : List ℕ) (b : Bench) (records refused n′ at w : ℕ)
     (l : Link st₀ s out₀ n out (stateOf b records refused) n′ at w) where
-  pub stepped : (out′ : List ℕ) (kind port clock start next k m r w′ : ℕ) (p : Port) (b′ : Bench) (a : Act) (x : Answer) (sign : ℕ → List ℕ → ℕ)
-      → Found (form (drop at s)) (drop at s) at kind port clock start next → 0 < n′ → sign ≡ byBits → k ≡ placeOf port
-      → p ≡ getD (b .ports) k noPort
-      → a ≡ actBy sign (p .running) (p .params) (entry kind port clock (take (next - start) (drop start s)))
-      → b′ ≡ record { ports = actPorts (b .ports) k clock a }
-      → x ≡ answerIn a → m ≡ more records → r ≡ refusedAfter refused x → Written out w (lineFor m x) w′ out′
-      → Link st₀ s out₀ n out′ (stateOf b′ m r) (n′ - 1) next w′
-  stepped out′ kind port clock start next k m r w′ p b′ a x sign f h hs hk hp ha hb hx hm hr v =
-      let e = entryOf (drop at s) in
-      let ha′ : a ≡ actBy byBits (p .running) (p .params) e =
+  pub stepped : (out′ : List ℕ) (kind port clock start next m w′ : ℕ) (setting : Setting) (a : Act) (sign : ℕ → List ℕ → ℕ)
+      → Found (form (drop at s)) (drop at s) at kind port clock start next → 0 < n′ → sign ≡ byBits
+      → setting ≡ getD (b .ports) (placeOf port .index) noPort .setting
+      → a ≡ actBy sign (outside 1 8 port) setting (entry kind port clock (take (next - start) (drop start s)))
+      → m ≡ more records → Written out w (lineFor m (answerIn a)) w′ out′
+      → Link st₀ s out₀ n out′ (stateOf (record { ports = actPorts (b .ports) (placeOf port .index) clock a }) m (refusedAfter refused (answerIn a))) (n′ - 1) next w′
+  stepped out′ kind port clock start next m w′ setting a sign f h hs hp ha hm v =
+      let e = entry kind port clock (take (next - start) (drop start s)) in
+      let is : e ≡ entryOf (drop at s) = entry-found s at kind port clock start next f in
+      let ha′ : a ≡ actBy byBits (outside 1 8 port) (getD (b .ports) (placeOf port .index) noPort .setting) e =
       ha
-      ∙ ap (λ (sign : ℕ → List ℕ → ℕ). actBy sign (p .running) (p .params) (entry kind port clock (take (next - start) (drop start s)))) hs
-      ∙ ap (λ (e : Entry). actBy byBits (p .running) (p .params) e) (entry-found s at kind port clock start next f) in
-      let hk′ : k ≡ placeOf (portOf (drop at s)) = hk ∙ ap placeOf (f .port) in
-      let hp′ : p ≡ getD (b .ports) (placeOf (portOf (drop at s))) noPort = hp ∙ ap (λ (k : ℕ). getD (b .ports) k noPort) hk′ in
-      let hb′ : b′ ≡ record { ports = actPorts (b .ports) (placeOf (portOf (drop at s))) (clockOf (drop at s)) a } =
-      hb
-      ∙ ap (λ (k : ℕ). record { ports = actPorts (b .ports) k clock a }) hk′
-      ∙ ap (λ (c : ℕ). record { ports = actPorts (b .ports) (placeOf (portOf (drop at s))) c a }) (f .clock) in
+      ∙ ap (λ (sign : ℕ → List ℕ → ℕ). actBy sign (outside 1 8 port) setting e) hs
+      ∙ ap (λ (s : Setting). actBy byBits (outside 1 8 port) s e) hp in
       again l (f .stands) h (f .next)
-      (state-after b records refused m e p b′ a x hp′ ha′ hb′ hx hm r hr)
-      (line-after b records refused m e p b′ a x hp′ ha′ hb′ hx hm)
+      (ap (λ (m : ℕ). stateOf (later b records refused e a ha′) m (refusedAfter refused (answerIn a))) hm ∙ state-after b records refused e a ha′ ∙ ap (λ (e : Entry). applied (stateOf b records refused) e) is)
+      (ap (λ (m : ℕ). lineFor m (answerIn a)) hm ∙ line-after b records refused e a ha′ ∙ ap (λ (e : Entry). lineOf (stateOf b records refused) e) is)
       v

@@ -68,16 +68,16 @@ module _ (b : Bench) (e : Entry) where
   abbrev pub call : Bool → Bool → Bool → Call
   call k₁ k₂ k₃ =
       cond k₁ (SetParameters (e .port) (e .at) (e .octets))
-      (cond k₂ (ReceiveResponse (e .port) (e .at) (e .octets) (safeIn (p .params)))
-      (cond k₃ (Clock (e .port) (e .at) (safeIn (p .params)) (safeOut (p .params)))
-      (Operator (e .port) (e .at) (setSDIn (e .octets)) (ackIn (e .octets)) (safeIn (p .params)))))
+      (cond k₂ (ReceiveResponse (e .port) (e .at) (e .octets) (safeIn (p .setting .params)))
+      (cond k₃ (Clock (e .port) (e .at) (safeIn (p .setting .params)) (safeOut (p .setting .params)))
+      (Operator (e .port) (e .at) (setSDIn (e .octets)) (ackIn (e .octets)) (safeIn (p .setting .params)))))
 
   kept : (k₁ k₂ k₃ : Bool) → noSeven (rulesOf (portAt b (portOf (call k₁ k₂ k₃))) (call k₁ k₂ k₃)) ≡ true
   unfolding rulesOf portOf
   kept true k₂ k₃ = refl
-  kept false true k₃ = rw (safe-in (p .params))
-  kept false false true = rw (safe-in (p .params), safe-out (p .params))
-  kept false false false = rw (safe-in (p .params))
+  kept false true k₃ = rw (safe-in (p .setting .params))
+  kept false false true = rw (safe-in (p .setting .params), safe-out (p .setting .params))
+  kept false false false = rw (safe-in (p .setting .params))
 
   pub never-seven : isSeven (answerOf b (callOf b e)) ≡ false
   never-seven =

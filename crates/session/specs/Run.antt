@@ -10,15 +10,20 @@ use Rattle.answer.specs.declared.Answer.the-variants as answers
 use Rattle.answer.specs.Answers.{numberOf, isTaken}
 use Rattle.block.specs.declared.Params.{Params}
 use Rattle.spdu.specs.Places.{processOctets}
+use Rattle.bench.specs.declared.Setting.{Setting}
 use Rattle.bench.specs.declared.Bench.{Bench}
+use Rattle.bench.specs.declared.Act.{Act}
 use Rattle.bench.specs.Ports.{newBench, portAt}
+use Rattle.bench.specs.Calls.{parametersAct, responseAct, clockAct, operatorAct}
 use Rattle.bench.specs.History.{Call, SetParameters, ReceiveResponse, Clock, Operator, answerOf, after, history}
 use Rattle.session.specs.declared.State.{State}
 use Rattle.session.specs.declared.Fed.{Fed}
 use Rattle.session.specs.declared.Stop.{Stop}
 use Rattle.session.specs.declared.Stop.the-variants.{Full, Bad, Cut, End}
 use Rattle.record.specs.Format.{kindOf, portOf, clockOf, octetsOf, sizeOf, Form, nothing, part, bad, whole, form}
-use Rattle.session.specs.Text.{refusalLine, summaryLine, portLines}
+use Rattle.lines.specs.Text.{refusalLine, summaryLine}
+use Rattle.session.specs.Text.{portLines}
+pub use Rattle.session.specs.Text.{lineRoom, closingRoom}
 
 -- ---- Records
 
@@ -79,7 +84,16 @@ callBy p e =
     (Operator (e .port) (e .at) (setSDIn (e .octets)) (ackIn (e .octets)) (safeIn p))))
 
 abbrev pub callOf : Bench → Entry → Call
-callOf b e = callBy (portAt b (e .port) .params) e
+callOf b e = callBy (portAt b (e .port) .setting .params) e
+
+-- what that call asks of the port (proofs/Turn.antt), by a method of signing: o says that no port has the number, s is the port's setting. Zeros
+-- of the right length hold as safe values.
+abbrev pub actBy : (ℕ → List ℕ → ℕ) → Bool → Setting → Entry → Act
+actBy sign o s e =
+    cond (eqb (e .kind) 1) (parametersAct (e .port) (e .octets))
+    (cond (eqb (e .kind) 2) (responseAct sign o s (e .at) (e .octets) true)
+    (cond (eqb (e .kind) 3) (clockAct o s (e .at) true)
+    (operatorAct o s (e .at) (setSDIn (e .octets)) (ackIn (e .octets)) true)))
 
 -- the calls of some records behind earlier ones, the latest first
 abbrev pub callsOf : List Call → List Entry → List Call
@@ -92,15 +106,22 @@ callsOf past (e ∷ rs) = callsOf (callOf (history past) e ∷ past) rs
 abbrev pub more : ℕ → ℕ
 more n = min (n + 1) (2 ^ 64 - 1)
 
+-- n records more
+abbrev pub plus : ℕ → ℕ → ℕ
+plus records n = min (records + n) (2 ^ 64 - 1)
+
+abbrev pub stateOf : Bench → ℕ → ℕ → State
+stateOf b records refused = record { bench = b; records = records; refused = refused }
+
 abbrev pub start : State
-start = record { bench = newBench; records = 0; refused = 0 }
+start = stateOf newBench 0 0
 
 abbrev pub refusedAfter : ℕ → Answer → ℕ
 refusedAfter refused a = cond (isTaken a) refused (more refused)
 
 -- the bench, A and B after a record that was answered so
 abbrev pub answered : State → Bench → Answer → State
-answered st b a = record { bench = b; records = more (st .records); refused = refusedAfter (st .refused) a }
+answered st b a = stateOf b (more (st .records)) (refusedAfter (st .refused) a)
 
 unfoldable pub applied : State → Entry → State
 applied st e = answered st (after (st .bench) (callOf (st .bench) e)) (answerOf (st .bench) (callOf (st .bench) e))
@@ -138,13 +159,6 @@ printed s =
     told start rs ++ closing (ran start rs) (not (eqb (length (restOf (length s) s)) 0))
 
 -- ---- In blocks
-
--- the room that is kept for a line, and for what is printed at the end
-abbrev pub lineRoom : ℕ
-lineRoom = 64
-
-abbrev pub closingRoom : ℕ
-closingRoom = 1152
 
 -- why reading stopped, by what stands there: a whole record, for whose line there is no room; a bad one; one cut short; nothing
 abbrev pub stopOf : Form → Stop

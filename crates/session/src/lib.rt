@@ -3,17 +3,13 @@
 // A program starts with `start`, hands on each block of octets to `feed` together with what the last call left of the block before, prints
 // what it wrote, and at the end of the input, or where a record is bad, prints what `finish` writes.
 mod calling;
-mod columns;
 mod run;
 mod text;
 
-use answer::Answer;
 use bench::Bench;
-use block::Params;
 pub use run::feed;
 pub use run::finish;
 pub use run::start;
-use scl::Happening;
 
 // How far a session has come: the bench, the whole records and those refused.
 #[repr(C)]
@@ -41,14 +37,4 @@ pub struct Fed {
     pub used: usize,
     pub written: usize,
     pub stop: Stop,
-}
-
-// What a record asks of the port that it addresses.
-pub(crate) enum Act {
-    // Nothing: its call is refused.
-    Refused(Answer),
-    // To take these parameters.
-    Accepted(Params),
-    // To step.
-    Happens(Happening),
 }

@@ -1,32 +1,32 @@
 // A run over blocks of octets.
 ghost use mathlib.Core.Path.{_≡_};
-ghost use mathlib.Core.Bool.{cond};
+ghost use mathlib.Core.Bool.{true, cond};
 ghost use Prim.Native.Nat.{_+_, _≤_, _<_};
-ghost use lib.ListN.{length};
+ghost use lib.ListN.{length, drop};
 ghost use Rattle.io.specs.Counts.{Counts};
+ghost use Rattle.record.specs.Format.{form};
 ghost use Rattle.session.specs.Run as runs;
 ghost use Rattle.session.specs.Text as lines;
-ghost use Rattle.session.specs.Acts as acts;
-ghost use Rattle.session.specs.Columns as columns;
-use crate::Act;
+ghost use Rattle.bench.specs.Columns as columns;
 use crate::Fed;
 use crate::State;
 use crate::Stop;
-use crate::calling::act_answer;
 use crate::calling::act_of;
-use crate::columns::packed;
-use crate::columns::tally;
 use crate::text::port_lines;
-use crate::text::refusal_line;
-use crate::text::summary_line;
+use crate::text::put;
 use answer::Answer;
+use bench::Act;
+use bench::BIN_COUNT;
 use bench::Bench;
-use block::Params;
-use fs_device::Device;
-use fs_master::Master;
-use histogram::Totals;
+use bench::Live;
+use bench::PORT_COUNT;
+use bench::Setting;
+use lines::LINE_ROOM;
 use record::Record;
 use record::read_record;
+
+// Room for what is printed at the end.
+const CLOSING_ROOM: usize = 1152;
 
 // No record has been read.
 pub fn start() -> State
@@ -45,26 +45,14 @@ fn more(n: u64) -> u64
     if n < u64::MAX { n + 1 } else { u64::MAX }
 }
 
-fn place(port: u8) -> usize
-    ensures { λ r. ⌜ (r ≡ acts.placeOf port) × (r < 8) ⌝ }
+// n records more.
+fn plus(records: u64, n: usize) -> u64
+    ensures { λ r. ⌜ r ≡ runs.plus records n ⌝ }
 {
-    if ranges::outside(1, 8, port as u32) {
-        0
+    if records <= u64::MAX - n as u64 {
+        records + n as u64
     } else {
-        port as usize - 1
-    }
-}
-
-// The line of a refusal; an answer that is none has no line.
-fn say(out: &mut [u8], at: usize, number: u64, answer: Answer) -> usize
-    requires { ⌜ at + 64 ≤ length (now out) ⌝ }
-    ensures { λ r. ⌜ lines.Written (now (out .entry)) at (runs.lineFor number answer) r (now (out .exit)) ⌝ }
-    ensures { λ r. ⌜ r ≤ at + 64 ⌝ }
-{
-    if answer::is_taken(answer) {
-        at
-    } else {
-        refusal_line(out, at, number, answer::number(answer))
+        u64::MAX
     }
 }
 
@@ -78,135 +66,148 @@ fn refused_after(refused: u64, answer: Answer) -> u64
     }
 }
 
+// The line of a refusal; an answer that is none has no line.
+fn say(out: &mut [u8], at: usize, number: u64, answer: Answer) -> usize
+    requires { ⌜ at + lines.lineRoom ≤ length (now out) ⌝ }
+    ensures { λ r. ⌜ lines.Written (now (out .entry)) at (runs.lineFor number answer) r (now (out .exit)) ⌝ }
+    ensures { λ r. ⌜ r ≤ at + lines.lineRoom ⌝ }
+{
+    if answer::is_taken(answer) {
+        at
+    } else {
+        let line = lines::refusal_line(number, answer::number(answer));
+        put(out, at, &line.octets, line.length)
+    }
+}
+
 fn bench_of(st: State) -> Bench
     ensures { λ r. ⌜ r ≡ st .bench ⌝ }
 {
     st.bench
 }
 
-// What is answered where reading stops.
-fn stopped(bench: Bench, records: u64, refused: u64, used: usize, written: usize, stop: Stop) -> Fed
-    ensures { λ r. ⌜ r ≡ record { state = record { bench = bench; records = records; refused = refused }; used = used; written = written; stop = stop } ⌝ }
+// Why reading stops at a position.
+fn stop_at(s: &[u8], at: usize) -> Stop
+    ensures { λ r. ⌜ r ≡ runs.stopOf (form (drop at (now (s .entry)))) ⌝ }
 {
-    Fed {
-        state: State {
-            bench,
-            records,
-            refused,
-        },
-        used,
-        written,
-        stop,
+    match read_record(s, at) {
+        Record::Whole {
+            kind: _,
+            port: _,
+            clock: _,
+            start: _,
+            next: _,
+        } => Stop::Full,
+        Record::Bad => Stop::Bad,
+        Record::Cut => Stop::Cut,
+        Record::End => Stop::End,
+    }
+}
+
+// One more in bin i of the port at k, where its turn counts a sample.
+fn raise(bins: &mut [[u32; BIN_COUNT]; PORT_COUNT], k: usize, counts: bool, i: usize)
+    requires { ⌜ k < 8 ⌝ }
+    requires { ⌜ (counts ≡ true → columns.isBin i) ⌝ }
+    ensures { λ _. ⌜ now (bins .exit) ≡ columns.raisedAt (now (bins .entry)) k counts i ⌝ }
+{
+    if counts {
+        bins[k][i] = std::num::wrapping_add_u32(bins[k][i], 1);
     }
 }
 
 // `feed`, of a bench in columns.
 fn take_records(
-    running: [bool; 8],
-    params: [Params; 8],
-    masters: [Master; 8],
-    devices: [Device; 8],
-    totals: [Totals; 8],
-    bins: [[u32; 32]; 8],
+    settings: [Setting; PORT_COUNT],
+    lives: [Live; PORT_COUNT],
+    bins: [[u32; BIN_COUNT]; PORT_COUNT],
     records: u64,
     refused: u64,
     s: &[u8],
     out: &mut [u8],
 ) -> Fed
-    ensures { λ r. ⌜ r ≡ runs.fedOf (columns.stateOf (columns.packed running params masters devices totals bins) records refused) (now (s .entry)) (length (now (out .entry))) ⌝ }
-    ensures { λ _. ⌜ now (out .exit) ≡ runs.fedText (columns.stateOf (columns.packed running params masters devices totals bins) records refused) (now (s .entry)) (now (out .entry)) ⌝ }
+    ensures { λ r. ⌜ r ≡ runs.fedOf (runs.stateOf (columns.packed settings lives bins) records refused) (now (s .entry)) (length (now (out .entry))) ⌝ }
+    ensures { λ _. ⌜ now (out .exit) ≡ runs.fedText (runs.stateOf (columns.packed settings lives bins) records refused) (now (s .entry)) (now (out .entry)) ⌝ }
     ensures { λ r. ⌜ r .used ≤ length (now (s .entry)) ⌝ }
     ensures { λ r. ⌜ Counts (r .written) (now (out .exit)) ⌝ }
 {
     let short = signature::table16();
     let long = signature::table32();
-    let none = histogram::totals_of(histogram::cleared());
-    let zero = [0u32; 32];
-    let mut running = running;
-    let mut params = params;
-    let mut masters = masters;
-    let mut devices = devices;
-    let mut totals = totals;
+    let none = [0u32; BIN_COUNT];
+    let mut settings = settings;
+    let mut lives = lives;
     let mut bins = bins;
-    let mut records = records;
     let mut refused = refused;
-    let mut left = out.len() / 64;
+    let room = out.len() / LINE_ROOM;
+    let mut left = room;
     let mut at = 0;
     let mut written = 0;
     loop {
-        match read_record(s, at) {
-            Record::Whole {
-                kind,
-                port,
-                clock,
-                start,
-                next,
-            } => {
-                if left == 0 {
-                    let bench = packed(running, params, masters, devices, totals, bins);
-                    return stopped(bench, records, refused, at, written, Stop::Full);
-                }
-                let k = place(port);
-                let q = params[k];
-                let act = act_of(
-                    &short,
-                    &long,
-                    running[k],
-                    q,
-                    kind,
-                    port,
-                    clock,
-                    &s[start..next],
-                );
-                let answer = act_answer(act);
-                match act {
-                    Act::Refused(_) => {}
-                    Act::Accepted(accepted) => {
-                        let m = fs_master::first(clock);
-                        let d = fs_device::first(clock);
-                        running[k] = true;
-                        params[k] = accepted;
-                        masters[k] = m;
-                        devices[k] = d;
-                        totals[k] = none;
-                        bins[k] = zero;
-                    }
-                    Act::Happens(happening) => {
-                        let w = q.FSP_WatchdogTime;
-                        let m = masters[k];
-                        let moved = samples::move_master(m, w, happening);
-                        let master = moved.master;
-                        masters[k] = master;
-                        let d = devices[k];
-                        if !fs_device::stands(d, w, happening) {
-                            let stepped = fs_device::step(d, w, happening);
-                            let device = stepped.device;
-                            devices[k] = device;
-                        }
-                        let t = totals[k];
-                        let after = tally(&mut bins, k, t, w, moved.passes_anew, moved.t);
-                        totals[k] = after;
-                    }
-                }
-                records = more(records);
+        if left == 0 {
+            break;
+        }
+        let Record::Whole {
+            kind,
+            port,
+            clock,
+            start,
+            next,
+        } = read_record(s, at)
+        else {
+            break;
+        };
+        let place = bench::place_of(port);
+        let k = place.index;
+        let setting = settings[k];
+        let act = act_of(
+            &short,
+            &long,
+            place.outside,
+            setting,
+            kind,
+            port,
+            clock,
+            &s[start..next],
+        );
+        at = next;
+        left -= 1;
+        match act {
+            Act::Refused(answer) => {
                 refused = refused_after(refused, answer);
-                written = say(out, written, records, answer);
-                at = next;
-                left -= 1;
+                written = say(out, written, plus(records, room - left), answer);
             }
-            Record::Bad => {
-                let bench = packed(running, params, masters, devices, totals, bins);
-                return stopped(bench, records, refused, at, written, Stop::Bad);
+            Act::Accepted(params) => {
+                let accepted = bench::accepted(setting, params);
+                let begun = bench::begun(lives[k], clock);
+                settings[k] = accepted;
+                lives[k] = begun;
+                bins[k] = none;
             }
-            Record::Cut => {
-                let bench = packed(running, params, masters, devices, totals, bins);
-                return stopped(bench, records, refused, at, written, Stop::Cut);
-            }
-            Record::End => {
-                let bench = packed(running, params, masters, devices, totals, bins);
-                return stopped(bench, records, refused, at, written, Stop::End);
+            Act::Happens(happening) => {
+                // Nearly every record's turn is told first, for the compiler (bench, src/by_t4.rt).
+                if bench::is_regular(setting, lives[k], happening) {
+                    let turned = bench::regular(setting, lives[k], happening);
+                    let live = turned.live;
+                    lives[k] = live;
+                    raise(&mut bins, k, turned.counts, turned.bin);
+                } else {
+                    let turned = bench::turn(setting, lives[k], happening);
+                    let live = turned.live;
+                    lives[k] = live;
+                    raise(&mut bins, k, turned.counts, turned.bin);
+                }
             }
         }
+    }
+    let state = State {
+        bench: bench::packed(settings, lives, bins),
+        records: plus(records, room - left),
+        refused,
+    };
+    Fed {
+        state,
+        used: at,
+        written,
+        stop: stop_at(s, at),
     }
 }
 
@@ -219,41 +220,10 @@ pub fn feed(st: State, s: &[u8], out: &mut [u8]) -> Fed
     ensures { λ r. ⌜ Counts (r .written) (now (out .exit)) ⌝ }
 {
     let bench = bench_of(st);
-    let no_params = block::no_params();
-    let first_master = fs_master::first(0);
-    let first_device = fs_device::first(0);
-    let none = histogram::totals_of(histogram::cleared());
-    let zero = [0u32; 32];
-    let mut running = [false; 8];
-    let mut params = [no_params; 8];
-    let mut masters = [first_master; 8];
-    let mut devices = [first_device; 8];
-    let mut totals = [none; 8];
-    let mut bins = [zero; 8];
-    let mut i = 0;
-    while i < 8 {
-        let p = bench.ports[i];
-        let q = p.params;
-        let m = p.master;
-        let d = p.device;
-        let h = p.histogram;
-        let t = histogram::totals_of(h);
-        let b = h.bins;
-        running[i] = p.running;
-        params[i] = q;
-        masters[i] = m;
-        devices[i] = d;
-        totals[i] = t;
-        bins[i] = b;
-        i += 1;
-    }
     take_records(
-        running,
-        params,
-        masters,
-        devices,
-        totals,
-        bins,
+        bench::settings_of(bench),
+        bench::lives_of(bench),
+        bench::all_bins_of(bench),
         st.records,
         st.refused,
         s,
@@ -262,12 +232,12 @@ pub fn feed(st: State, s: &[u8], out: &mut [u8]) -> Fed
 }
 
 fn thirteen(out: &mut [u8], some: bool, records: u64) -> usize
-    requires { ⌜ 64 ≤ length (now out) ⌝ }
+    requires { ⌜ lines.lineRoom ≤ length (now out) ⌝ }
     ensures { λ r. ⌜ lines.Written (now (out .entry)) 0 (runs.thirteenLine some records) r (now (out .exit)) ⌝ }
-    ensures { λ r. ⌜ r ≤ 64 ⌝ }
+    ensures { λ r. ⌜ r ≤ lines.lineRoom ⌝ }
 {
     if some {
-        refusal_line(out, 0, more(records), answer::number(Answer::Record))
+        say(out, 0, more(records), Answer::Record)
     } else {
         0
     }
@@ -280,13 +250,14 @@ fn refused_at_end(some: bool, refused: u64) -> u64
 }
 
 fn close(st: State, some: bool, out: &mut [u8]) -> usize
-    requires { ⌜ 1152 ≤ length (now out) ⌝ }
+    requires { ⌜ lines.closingRoom ≤ length (now out) ⌝ }
     ensures { λ r. ⌜ lines.Written (now (out .entry)) 0 (runs.closing st some) r (now (out .exit)) ⌝ }
-    ensures { λ r. ⌜ r ≤ 1152 ⌝ }
+    ensures { λ r. ⌜ r ≤ lines.closingRoom ⌝ }
 {
     let a = thirteen(out, some, st.records);
     let refused = refused_at_end(some, st.refused);
-    let b = summary_line(out, a, st.records, refused);
+    let line = lines::summary_line(st.records, refused);
+    let b = put(out, a, &line.octets, line.length);
     port_lines(out, b, st.bench)
 }
 
@@ -297,7 +268,7 @@ pub fn finish(st: State, some: bool, out: &mut [u8]) -> usize
     ensures { λ _. ⌜ now (out .exit) ≡ runs.fronted (runs.finishText st some (length (now (out .entry)))) (now (out .entry)) ⌝ }
     ensures { λ r. ⌜ Counts r (now (out .exit)) ⌝ }
 {
-    if out.len() < 1152 {
+    if out.len() < CLOSING_ROOM {
         return 0;
     }
     close(st, some, out)

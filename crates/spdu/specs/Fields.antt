@@ -8,6 +8,7 @@ use lib.ListN.{length}
 use Rattle.block.specs.declared.Params.{Params}
 use Rattle.scl.specs.declared.Request.{Request}
 use Rattle.scl.specs.declared.Response.{Response}
+use Rattle.spdu.specs.declared.read.Trailer.{Trailer}
 use Rattle.spdu.specs.Places.{portOf, controlOf, signatureHolds, allZero}
 
 -- bits 5 to 7: MCount, or DCount_i
@@ -24,13 +25,16 @@ bit1 x = eqb (x / 2 % 2) 1
 abbrev pub bit0 : ℕ → Bool
 bit0 x = eqb (x % 2) 1
 
--- what the FS-Master reads, of an SPDU of SPDUInLength octets (Table 32); of another length: its length, count 0, every mark false
-abbrev pub responseBy : (ℕ → List ℕ → ℕ) → Params → List ℕ → Response
-responseBy sign p s =
+-- what stands behind the process octets
+abbrev pub trailerOf : (ℕ → List ℕ → ℕ) → ℕ → List ℕ → Trailer
+trailerOf sign mode s = record { port = portOf mode s; control = controlOf mode s; «signature_holds» = signatureHolds sign mode s }
+
+-- what the FS-Master reads (Table 32), whatever the length
+abbrev pub responseFields : (ℕ → List ℕ → ℕ) → Params → List ℕ → Response
+responseFields sign p s =
     let mode = p .«FSP_ProtMode» in
     let status = controlOf mode s in
-    cond (eqb (length s) (p .SPDUInLength))
-    (record {
+    record {
       length = length s;
       «DCount_i» = countIn status;
       SDset = bit2 status;
@@ -39,7 +43,12 @@ responseBy sign p s =
       «port_holds» = eqb (portOf mode s) (p .«FSP_Port»);
       «signature_holds» = signatureHolds sign mode s;
       «all_zero» = allZero s;
-    })
+    }
+
+-- of an SPDU of SPDUInLength octets; of another length: its length, count 0, every mark false
+abbrev pub responseBy : (ℕ → List ℕ → ℕ) → Params → List ℕ → Response
+responseBy sign p s =
+    cond (eqb (length s) (p .SPDUInLength)) (responseFields sign p s)
     (record {
       length = length s;
       «DCount_i» = 0;
@@ -51,13 +60,12 @@ responseBy sign p s =
       «all_zero» = false;
     })
 
--- what the FS-Device reads, of an SPDU of SPDUOutLength octets (Table 31)
-abbrev pub requestBy : (ℕ → List ℕ → ℕ) → Params → List ℕ → Request
-requestBy sign p s =
+-- what the FS-Device reads (Table 31), whatever the length
+abbrev pub requestFields : (ℕ → List ℕ → ℕ) → Params → List ℕ → Request
+requestFields sign p s =
     let mode = p .«FSP_ProtMode» in
     let control = controlOf mode s in
-    cond (eqb (length s) (p .SPDUOutLength))
-    (record {
+    record {
       length = length s;
       MCount = countIn control;
       setSD = bit1 control;
@@ -65,7 +73,12 @@ requestBy sign p s =
       «port_holds» = eqb (portOf mode s) (p .«FSP_Port»);
       «signature_holds» = signatureHolds sign mode s;
       «all_zero» = allZero s;
-    })
+    }
+
+-- of an SPDU of SPDUOutLength octets
+abbrev pub requestBy : (ℕ → List ℕ → ℕ) → Params → List ℕ → Request
+requestBy sign p s =
+    cond (eqb (length s) (p .SPDUOutLength)) (requestFields sign p s)
     (record {
       length = length s;
       MCount = 0;

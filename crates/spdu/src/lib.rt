@@ -23,4 +23,6 @@ pub use plain::read_response;
 pub use plain::signatures_held;
 pub use read::read_request_by;
 pub use read::read_response_by;
+pub use read::request_fields_by;
+pub use read::response_fields_by;
 pub use recording::signatures_held_by;

@@ -5,6 +5,8 @@ ghost use lib.ListN.{getD, take, length};
 ghost use Rattle.spdu.specs.Signature.{byTables, replaced};
 ghost use Rattle.spdu.specs.Places as places;
 ghost use Rattle.spdu.specs.Fields as fields;
+use crate::recording::long_holds;
+use crate::recording::short_holds;
 use block::Params;
 use block::word;
 use scl::Request;
@@ -82,24 +84,75 @@ fn signature_holds(short: &[u16; 256], long: &[u32; 256], mode: u8, s: &[u8]) ->
     carried(mode, s, end) == right
 }
 
+// What an SPDU carries behind its process octets; `control` is the status octet of a response.
+struct Trailer {
+    port: u8,
+    control: u8,
+    signature_holds: bool,
+}
+
+// Each place is tested, as an SPDU that lacks safety octets asks. None such is configured.
+fn cut_trailer_by(short: &[u16; 256], long: &[u32; 256], mode: u8, s: &[u8]) -> Trailer
+    requires { ⌜ length (now s) ≤ 255 ⌝ }
+    ensures { λ r. ⌜ r ≡ fields.trailerOf (byTables (now (short .entry)) (now (long .entry))) mode (now (s .entry)) ⌝ }
+{
+    let at = process_octets(mode, s.len());
+    Trailer {
+        port: octet(s, at),
+        control: octet(s, at + 1),
+        signature_holds: signature_holds(short, long, mode, s),
+    }
+}
+
+// The places are worked out once, from the end.
+fn trailer_by(short: &[u16; 256], long: &[u32; 256], mode: u8, s: &[u8]) -> Trailer
+    ensures { λ r. ⌜ r ≡ fields.trailerOf (byTables (now (short .entry)) (now (long .entry))) mode (now (s .entry)) ⌝ }
+{
+    let n = s.len();
+    if mode == 1 {
+        if n < 4 {
+            return cut_trailer_by(short, long, mode, s);
+        }
+        Trailer {
+            port: s[n - 4],
+            control: s[n - 3],
+            signature_holds: short_holds(short, s),
+        }
+    } else {
+        if n < 6 {
+            return cut_trailer_by(short, long, mode, s);
+        }
+        Trailer {
+            port: s[n - 6],
+            control: s[n - 5],
+            signature_holds: long_holds(long, s),
+        }
+    }
+}
+
+// The fields of an SPDU, whatever its length.
+pub fn response_fields_by(short: &[u16; 256], long: &[u32; 256], p: Params, s: &[u8]) -> Response
+    ensures { λ r. ⌜ r ≡ fields.responseFields (byTables (now (short .entry)) (now (long .entry))) p (now (s .entry)) ⌝ }
+{
+    let t = trailer_by(short, long, p.FSP_ProtMode, s);
+    let status = t.control;
+    Response {
+        length: s.len(),
+        DCount_i: status / 32 % 8,
+        SDset: status / 4 % 2 == 1,
+        DCommErr: status / 2 % 2 == 1,
+        DTimeout: status % 2 == 1,
+        port_holds: t.port == p.FSP_Port,
+        signature_holds: t.signature_holds,
+        all_zero: all_zero(s),
+    }
+}
+
 pub fn read_response_by(short: &[u16; 256], long: &[u32; 256], p: Params, s: &[u8]) -> Response
     ensures { λ r. ⌜ r ≡ fields.responseBy (byTables (now (short .entry)) (now (long .entry))) p (now (s .entry)) ⌝ }
 {
-    let mode = p.FSP_ProtMode;
     if s.len() == p.SPDUInLength as usize {
-        let signature_holds = signature_holds(short, long, mode, s);
-        let at = process_octets(mode, s.len());
-        let status = octet(s, at + 1);
-        Response {
-            length: s.len(),
-            DCount_i: status / 32 % 8,
-            SDset: status / 4 % 2 == 1,
-            DCommErr: status / 2 % 2 == 1,
-            DTimeout: status % 2 == 1,
-            port_holds: octet(s, at) == p.FSP_Port,
-            signature_holds,
-            all_zero: all_zero(s),
-        }
+        response_fields_by(short, long, p, s)
     } else {
         Response {
             length: s.len(),
@@ -114,23 +167,28 @@ pub fn read_response_by(short: &[u16; 256], long: &[u32; 256], p: Params, s: &[u
     }
 }
 
+// The fields of an SPDU, whatever its length.
+pub fn request_fields_by(short: &[u16; 256], long: &[u32; 256], p: Params, s: &[u8]) -> Request
+    ensures { λ r. ⌜ r ≡ fields.requestFields (byTables (now (short .entry)) (now (long .entry))) p (now (s .entry)) ⌝ }
+{
+    let t = trailer_by(short, long, p.FSP_ProtMode, s);
+    let control = t.control;
+    Request {
+        length: s.len(),
+        MCount: control / 32 % 8,
+        setSD: control / 2 % 2 == 1,
+        ChFAckReq: control % 2 == 1,
+        port_holds: t.port == p.FSP_Port,
+        signature_holds: t.signature_holds,
+        all_zero: all_zero(s),
+    }
+}
+
 pub fn read_request_by(short: &[u16; 256], long: &[u32; 256], p: Params, s: &[u8]) -> Request
     ensures { λ r. ⌜ r ≡ fields.requestBy (byTables (now (short .entry)) (now (long .entry))) p (now (s .entry)) ⌝ }
 {
-    let mode = p.FSP_ProtMode;
     if s.len() == p.SPDUOutLength as usize {
-        let signature_holds = signature_holds(short, long, mode, s);
-        let at = process_octets(mode, s.len());
-        let control = octet(s, at + 1);
-        Request {
-            length: s.len(),
-            MCount: control / 32 % 8,
-            setSD: control / 2 % 2 == 1,
-            ChFAckReq: control % 2 == 1,
-            port_holds: octet(s, at) == p.FSP_Port,
-            signature_holds,
-            all_zero: all_zero(s),
-        }
+        request_fields_by(short, long, p, s)
     } else {
         Request {
             length: s.len(),

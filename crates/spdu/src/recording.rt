@@ -12,7 +12,7 @@ use crate::read::replace;
 use block::word;
 
 // Of an SPDU that has all safety octets: no place is past its end, so none is tested.
-fn short_holds(short: &[u16; 256], s: &[u8]) -> bool
+pub(crate) fn short_holds(short: &[u16; 256], s: &[u8]) -> bool
     requires { ⌜ 4 ≤ length (now s) ⌝ }
     ensures { λ r. ⌜ r ≡ signatureHolds (byTables (now (short .entry)) []) 1 (now (s .entry)) ⌝ }
 {
@@ -21,7 +21,7 @@ fn short_holds(short: &[u16; 256], s: &[u8]) -> bool
     word(s[end], s[end + 1]) as u32 == right
 }
 
-fn long_holds(long: &[u32; 256], s: &[u8]) -> bool
+pub(crate) fn long_holds(long: &[u32; 256], s: &[u8]) -> bool
     requires { ⌜ 6 ≤ length (now s) ⌝ }
     ensures { λ r. ⌜ r ≡ signatureHolds (byTables [] (now (long .entry))) 2 (now (s .entry)) ⌝ }
 {

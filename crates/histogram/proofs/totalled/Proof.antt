@@ -3,13 +3,13 @@ use borrow.Author.Tests.{eqb-false}
 use borrow.Author.Needs.{needs}
 use native.Mathlib.Omega.{arith}
 use Rattle.histogram.specs.Samples.{limit}
-use Rattle.histogram.specs.Counted.{frozenOf, withSample, countedOf}
+use Rattle.histogram.specs.Counted.{totalledOf}
 use Rattle.histogram.proofs.totalled.Statement.{statement}
 use Rattle.histogram.proofs.totalled.Tie as tie
 
 returns : tie.Need-returns
-unfolding countedOf frozenOf
-returns c bins w = simp (simp (c .before .reached .ensures) at (c .if1 .taken))
+unfolding totalledOf
+returns c = simp (simp (c .before .reached .ensures) at (c .if1 .taken))
 
 add-t6 : tie.Need-add-t6
 unfolding limit
@@ -19,8 +19,8 @@ add-t6 c =
     omega (arith, eqb-false)
 
 returns-2 : tie.Need-returns-2
-unfolding countedOf frozenOf withSample
-returns-2 c bins w =
+unfolding totalledOf
+returns-2 c =
     let summed = c .before .before .before .before in
     let at = summed .before .before .before in
     simp (

@@ -1,13 +1,10 @@
 -- `samples::move_master` meets its contract. Assumes nothing.
 use borrow.Author.Needs.{needs}
-use Rattle.fs_master.proofs.Samples.{step-watchdog}
-use Rattle.samples.proofs.Samples.{sent-judged}
 use Rattle.samples.proofs.move_master.Statement.{statement}
 use Rattle.samples.proofs.move_master.Tie as tie
 
 returns : tie.Need-returns
-returns c = simp (c .elapsed .ensures, c .before .sent-at .ensures, c .before .before .before .before .before .reading .ensures, c .before .before .before .before .before .before .step .ensures, step-watchdog, sent-judged)
+returns c = simp (c .elapsed .ensures, c .before .reading .ensures, c .before .before .before .before .before .step .ensures)
 
 pub move-master-spec : {M : Type 1} → statement M
-move-master-spec =
-    tie.close (tie.spec (λ c κs. search needs) (λ c κs. search needs) (λ c κs. search needs) (λ c κs. search needs) returns)
+move-master-spec = tie.close (tie.spec (λ c κs. search needs) (λ c κs. search needs) (λ c κs. search needs) returns)

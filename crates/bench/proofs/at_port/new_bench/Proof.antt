@@ -1,3 +1,4 @@
+-- `bench::at_port::new_bench` meets its contract. Assumes nothing.
 use Rattle.bench.specs.Ports.{newBench}
 use borrow.Author.Needs.{needs}
 use Rattle.bench.proofs.at_port.new_bench.Statement.{statement}

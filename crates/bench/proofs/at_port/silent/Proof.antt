@@ -1,3 +1,4 @@
+-- `bench::at_port::silent` meets its contract. Assumes nothing.
 use mathlib.Core.Path.{refl}
 use Rattle.bench.specs.Ports.{silent}
 use Rattle.bench.proofs.at_port.silent.Statement.{statement}

@@ -6,7 +6,7 @@ use Rattle.bench.proofs.at_port.step.Tie as tie
 
 returns : tie.Need-returns
 unfolding stepOf
-returns c = simp (c .before .before .before .tallied .ensures, c .before .before .before .before .step .ensures, c .before .before .before .before .before .move-master .ensures)
+returns c = simp (c .stored .ensures, c .before .turn .ensures)
 
 pub step-spec : {M : Type 1} → statement M
-step-spec = tie.close (tie.spec (λ c κs. search needs) (λ c κs. search needs) (λ c κs. search needs) returns)
+step-spec = tie.close (tie.spec (λ c κs. search needs) (λ c κs. search needs) returns)

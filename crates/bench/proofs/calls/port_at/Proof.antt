@@ -1,5 +1,4 @@
-use native.Mathlib.Omega.{arith}
-use Rattle.bench.proofs.Index.{known-range}
+-- `bench::calls::port_at` meets its contract. Assumes nothing.
 use Rattle.bench.specs.Ports.{portAt, noPort}
 use borrow.Author.Needs.{needs}
 use Rattle.bench.proofs.calls.port_at.Statement.{statement}
@@ -7,18 +6,11 @@ use Rattle.bench.proofs.calls.port_at.Tie as tie
 
 returns : tie.Need-returns
 unfolding portAt
-returns c = simp (simp (c .before .before .outside .ensures) at (c .before .if1 .taken)) (c .new-port .ensures)
-
-sub-result : tie.Need-sub-result
-sub-result c = known-range _ (simp (c .before .outside .ensures) at (c .if1 .left)) .0
-
-element-copy-out-result : tie.Need-element-copy-out-result
-element-copy-out-result c =
-    let r = known-range (c .before .before .args .port) (simp (c .before .outside .ensures) at (c .if1 .left)) in omega (arith, r .0, r .1)
+returns c = simp (simp (c .before .before .place-of .ensures .0) at (c .before .if1 .taken)) (c .new-port .ensures)
 
 returns-2 : tie.Need-returns-2
 unfolding portAt noPort
-returns-2 c = simp (simp (c .before .before .outside .ensures) at (c .before .if1 .left))
+returns-2 c = simp (simp (c .before .before .place-of .ensures .0) at (c .before .if1 .left), c .before .before .place-of .ensures .0)
 
 pub port-at-spec : {M : Type 1} → statement M
 port-at-spec =
@@ -27,7 +19,6 @@ port-at-spec =
     (λ c κs. search needs)
     (λ c κs. search needs)
     returns
-    sub-result
     (λ c. search needs)
-    element-copy-out-result
+    (λ c. search needs)
     returns-2)

@@ -1,11 +1,43 @@
+-- `bench::calls::receive_request` meets its contract. Assumes nothing.
+use Prim.Native.Nat.{ℕ}
+use mathlib.Core.Path.{ap, _∙_}
+use mathlib.Core.List.{List}
+use denote.Ref.{now}
+use Rattle.spdu.proofs.Tables.{right-method}
+use Rattle.bench.specs.declared.Act.{Act}
+use Rattle.bench.specs.declared.PortAfter.{PortAfter}
+use Rattle.bench.specs.Calls.{requestAct, done, placed}
 use borrow.Author.Needs.{needs}
 use Rattle.bench.proofs.calls.receive_request.Statement.{statement}
 use Rattle.bench.proofs.calls.receive_request.Tie as tie
 
 returns : tie.Need-returns
-returns c = simp (c .placed .ensures, c .before .request-at .ensures, c .before .before .read-request .ensures, c .before .before .before .port-at .ensures)
+returns c =
+    let at-place = c .before .before .before .before .before in
+    let at-hold = at-place .before in
+    let at-long = at-hold .before .before in
+    let at-short = at-long .before in
+    let at-port = at-short .before in
+    let x = at-port .before .before .before .args in
+    let p = at-port .port-at .result in
+    c .placed .ensures
+    ∙ ap (λ (r : PortAfter). placed (x .b) (x .port) r) (c .before .done .ensures)
+    ∙ ap (λ (a : Act). placed (x .b) (x .port) (done p (x .at) a))
+    (c .before .before .request-act .ensures
+    ∙ ap (λ (sign : ℕ → List ℕ → ℕ). requestAct sign (at-place .place-of .result .outside) (p .setting) (x .at) (now (x .spdu)) (at-hold .safe-out-hold .result))
+    (right-method (at-short .table16 .ensures) (at-long .table32 .ensures)))
+    ∙ simp (at-place .place-of .ensures .0, at-hold .safe-out-hold .ensures, at-port .port-at .ensures)
 
 pub receive-request-spec : {M : Type 1} → statement M
 receive-request-spec =
     tie.close
-    (tie.spec (λ c κs. search needs) (λ c κs. search needs) (λ c κs. search needs) (λ c κs. search needs) returns)
+    (tie.spec
+    (λ c κs. search needs)
+    (λ c κs. search needs)
+    (λ c κs. search needs)
+    (λ c κs. search needs)
+    (λ c κs. search needs)
+    (λ c κs. search needs)
+    (λ c κs. search needs)
+    (λ c κs. search needs)
+    returns)

@@ -20,7 +20,7 @@ returns c =
     let call = taken .before in
     let port = call .before in
     let args = port .before .before .before .before .args in
-    let e = call .call-answer .ensures ∙ ap (λ (q : Port). answerBy Taken (callRules (args .port) q)) (port .port-at .ensures) in
+    let e = call .port-answer .ensures ∙ ap (λ (q : Port). answerBy Taken (callRules (args .port) (q .setting))) (port .port-at .ensures) in
     let t = sym (taken .is-taken .ensures) ∙ kept .if1 .taken in
     let x = copied (args .port) (portAt (args .b) (args .port)) (args .mark) (args .spdu .now) (args .safe .now) (args .out .now) _ _ _ _ e t (part .handed-on .ensures) (room .if2 .taken) (copy .copy .ensures .0) (copy .copy .ensures .1) in
     (x .told-is, x .later-is)
@@ -33,7 +33,7 @@ returns-2 c =
     let call = taken .before in
     let port = call .before in
     let args = port .before .before .before .before .args in
-    let e = call .call-answer .ensures ∙ ap (λ (q : Port). answerBy Taken (callRules (args .port) q)) (port .port-at .ensures) in
+    let e = call .port-answer .ensures ∙ ap (λ (q : Port). answerBy Taken (callRules (args .port) (q .setting))) (port .port-at .ensures) in
     let t = sym (taken .is-taken .ensures) ∙ kept .if1 .taken in
     let x = no-room (args .port) (portAt (args .b) (args .port)) (args .mark) (args .spdu .now) (args .safe .now) (args .out .now) _ _ e t (part .handed-on .ensures) (c .if2 .left) in
     (x .told-is, x .later-is)
@@ -44,7 +44,7 @@ returns-3 c =
     let call = taken .before in
     let port = call .before in
     let args = port .before .before .before .before .args in
-    let e = call .call-answer .ensures ∙ ap (λ (q : Port). answerBy Taken (callRules (args .port) q)) (port .port-at .ensures) in
+    let e = call .port-answer .ensures ∙ ap (λ (q : Port). answerBy Taken (callRules (args .port) (q .setting))) (port .port-at .ensures) in
     let t = sym (taken .is-taken .ensures) ∙ c .if1 .left in
     let x = refused (args .port) (portAt (args .b) (args .port)) (args .mark) (args .spdu .now) (args .safe .now) (args .out .now) _ e t in
     (x .told-is, x .later-is)

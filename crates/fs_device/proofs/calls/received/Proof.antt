@@ -9,7 +9,7 @@ returns c = simp (simp (c .before .before .before .is-taken .ensures) at (c .bef
 
 returns-2 : tie.Need-returns-2
 unfolding received
-returns-2 c = simp (simp (c .before .before .before .is-taken .ensures) at (c .before .before .if1 .left), c .quiet .ensures, c .before .is-old .ensures)
+returns-2 c = simp (simp (c .before .before .is-taken .ensures) at (c .before .if1 .left), c .quiet .ensures, c .before .before .before .is-old .ensures)
 
 pub received-spec : {M : Type 1} → statement M
 received-spec =

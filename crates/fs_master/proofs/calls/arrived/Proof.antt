@@ -5,13 +5,12 @@ use Rattle.fs_master.proofs.calls.arrived.Tie as tie
 
 returns : tie.Need-returns
 unfolding arrived judged
-returns c = simp (c .mark-of .ensures, c .before .is-old .ensures, c .before .before .acted .ensures, c .before .before .before .taken .ensures, c .before .before .before .before .arrival-row .ensures, c .before .before .before .before .before .has-faults .ensures, c .before .before .before .before .before .before .is-failure .ensures)
+returns c = simp (c .mark-of .ensures, c .before .acted .ensures, c .before .before .taken .ensures, c .before .before .before .arrival-row .ensures, c .before .before .before .before .has-faults .ensures, c .before .before .before .before .before .is-failure .ensures, c .before .before .before .before .before .before .pre)
 
 pub arrived-spec : {M : Type 1} → statement M
 arrived-spec =
     tie.close
     (tie.spec
-    (λ c κs. search needs)
     (λ c κs. search needs)
     (λ c κs. search needs)
     (λ c κs. search needs)

@@ -7,31 +7,30 @@ returns : tie.Need-returns
 unfolding stepOf
 returns c =
     simp
-    (c .received .ensures, c .before .before .before .before .judged .ensures, c .before .before .before .before .before .watchdog-row .ensures, c .before .before .before .before .before .before .reading .ensures, c .before .before .happening .given .1)
+    (c .received .ensures, c .before .before .before .before .before .watched .ensures .0, c .before .before .before .before .before .watched .ensures .1, c .before .before .before .before .before .before .reading .ensures, c .before .before .happening .given .1)
 
 returns-2 : tie.Need-returns-2
 unfolding stepOf watched
 returns-2 c =
     simp
-    (c .quiet .ensures, c .before .before .before .judged .ensures, c .before .before .before .before .watchdog-row .ensures, c .before .before .before .before .before .reading .ensures, c .before .enum-told .given .1)
+    (c .quiet .ensures, c .before .before .before .before .watched .ensures .0, c .before .before .before .before .watched .ensures .1, c .before .before .before .before .before .reading .ensures, c .before .enum-told .given .1)
 
 returns-3 : tie.Need-returns-3
 unfolding stepOf watched
 returns-3 c =
     simp
-    (c .quiet2 .ensures, c .before .before .before .judged .ensures, c .before .before .before .before .watchdog-row .ensures, c .before .before .before .before .before .reading .ensures, c .before .enum-told2 .given .1)
+    (c .quiet2 .ensures, c .before .before .before .before .watched .ensures .0, c .before .before .before .before .watched .ensures .1, c .before .before .before .before .before .reading .ensures, c .before .enum-told2 .given .1)
 
 returns-4 : tie.Need-returns-4
 unfolding stepOf operated
 returns-4 c =
     simp
-    (c .quiet3 .ensures, c .before .signalled .ensures, c .before .before .before .before .before .judged .ensures, c .before .before .before .before .before .before .watchdog-row .ensures, c .before .before .before .before .before .before .before .reading .ensures, c .before .before .before .happening2 .given .1)
+    (c .quiet3 .ensures, c .before .signalled .ensures, c .before .before .before .before .before .before .watched .ensures .0, c .before .before .before .before .before .before .watched .ensures .1, c .before .before .before .before .before .before .before .reading .ensures, c .before .before .before .happening2 .given .1)
 
 pub step-spec : {M : Type 1} → statement M
 step-spec =
     tie.close
     (tie.spec
-    (λ c κs. search needs)
     (λ c κs. search needs)
     (λ c κs. search needs)
     (λ c. search needs)

@@ -5,7 +5,7 @@ use Rattle.fs_master.proofs.table38.is_taken.Tie as tie
 
 returns : tie.Need-returns
 unfolding isTaken
-returns c = simp (c .is-old .ensures, c .before .is-expected .ensures)
+returns c = simp (c .is-expected .ensures, c .before .before .before .before .before .pre)
 
 pub is-taken-spec : {M : Type 1} → statement M
-is-taken-spec = tie.close (tie.spec (λ c κs. search needs) (λ c κs. search needs) returns)
+is-taken-spec = tie.close (tie.spec (λ c κs. search needs) returns)

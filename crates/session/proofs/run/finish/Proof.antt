@@ -5,7 +5,7 @@ use lib.ListN.{length}
 use lib.Seq.{length-take-le}
 use native.Mathlib.Omega.{arith}
 use borrow.Author.Tests.{lt-ltb, le-ltb}
-use Rattle.session.proofs.Written.{from-front}
+use Rattle.lines.proofs.Written.{from-front}
 use Rattle.session.specs.Run.{finishText}
 use borrow.Author.Needs.{needs}
 use Rattle.session.proofs.run.finish.Statement.{statement}

@@ -1,6 +1,7 @@
 -- `session::run::say` meets its contract. Assumes nothing.
 use native.Mathlib.Omega.{arith}
-use Rattle.session.proofs.Written.{none}
+use lib.Seq.{take-append-seam}
+use Rattle.lines.proofs.Written.{none}
 use borrow.Author.Needs.{needs}
 use Rattle.session.proofs.run.say.Statement.{statement}
 use Rattle.session.proofs.run.say.Tie as tie
@@ -11,14 +12,16 @@ returns c =
 
 returns-2 : tie.Need-returns-2
 returns-2 c =
-    let l = c .before .before in
-    let t = l .before .before .before in
-    (rw (rw (t .before .is-taken .ensures) at (t .if1 .left)) (rw (l .before .number .ensures) at (l .refusal-line .ensures .0)), l .refusal-line .ensures .1)
+    let p = c .before .before in
+    let l = p .before .before .before .before .before in
+    let t = l .before .before in
+    (rw (rw (t .before .is-taken .ensures) at (t .if1 .left)) (rw (l .refusal-line .ensures .0, take-append-seam, l .before .number .ensures) at (p .put .ensures)), omega (arith, p .put .ensures .end, l .refusal-line .ensures .1))
 
 pub say-spec : {M : Type 1} → statement M
 say-spec =
     tie.close
     (tie.spec
+    (λ c κs. search needs)
     (λ c κs. search needs)
     (λ c κs. search needs)
     (λ c κs. search needs)

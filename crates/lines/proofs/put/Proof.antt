@@ -1,0 +1,24 @@
+-- `lines::put` meets its contract. Assumes nothing.
+use native.Mathlib.Omega.{arith}
+use borrow.Author.Needs.{needs}
+use Rattle.lines.proofs.Written.{copied}
+use Rattle.lines.proofs.put.Statement.{statement}
+use Rattle.lines.proofs.put.Tie as tie
+
+returns : tie.Need-returns
+returns c =
+    let k = c .before .before in
+    let s = k .before .before .before .before in
+    rw (k .copy .ensures .0) (copied _ _ _ (s .args .at) (s .pre) (k .copy .ensures .1))
+
+pub put-spec : {M : Type 1} → statement M
+put-spec =
+    tie.close
+    (tie.spec
+    (λ c. search needs)
+    (λ c. search needs)
+    (λ c. search needs)
+    (λ c κs. search needs)
+    (λ c. search needs)
+    (λ c. search needs)
+    returns)
