@@ -2,14 +2,20 @@
 use Prim.Native.Nat.{ℕ, _-_, _<_}
 use mathlib.Core.Path.{_≡_, refl, sym, ap, _∙_}
 use mathlib.Core.Bool.{Bool, true, false, cond}
-use mathlib.Core.List.{List, []}
-use lib.ListN.{getD, set, replicate, length-set}
+use mathlib.Core.List.{List, [], _∷_}
+use lib.ListN.{getD, set, drop, replicate, length-set}
 use lib.Seq.{set-getD}
 use Rattle.answer.specs.declared.Answer.{Answer}
 use Rattle.answer.specs.declared.Answer.the-variants as answers
 use Rattle.answer.specs.Answers.{isTaken}
+use Rattle.answer.specs.Rules as answering
+use Rattle.answer.specs.Rules.{Rule, rule, answerBy}
+use Rattle.answer.proofs.Exact.{onward, stands}
 use Rattle.ranges.specs.Fields.{outside}
 use Rattle.block.specs.declared.Params.{Params}
+use Rattle.block.specs.Rules.{rulesOn, judgedAs}
+use Rattle.block.specs.Table22.{paramsOf}
+use Rattle.scl.proofs.Cases.{cond-case, no}
 use Rattle.scl.specs.declared.Happening.{Happening}
 use Rattle.histogram.specs.Samples.{binCount}
 use Rattle.histogram.specs.Counted.{raisedIf}
@@ -18,10 +24,12 @@ use Rattle.bench.specs.declared.Live.{Live}
 use Rattle.bench.specs.declared.Port.{Port}
 use Rattle.bench.specs.declared.Bench.{Bench}
 use Rattle.bench.specs.declared.Turned.{Turned}
+use Rattle.bench.specs.declared.Reply.{Reply}
+use Rattle.bench.specs.declared.BenchAfter.{BenchAfter}
 use Rattle.bench.specs.declared.Act.{Act}
 use Rattle.bench.specs.declared.Act.the-variants.{Refused, Accepted, Happens}
 use Rattle.bench.specs.Ports as ports
-use Rattle.bench.specs.Ports.{newPort, noPort, placeOf, portAt, withPort, acceptedPort, stored, stepOf, silent}
+use Rattle.bench.specs.Ports.{newPort, noPort, placeOf, portAt, withPort, acceptedPort, stored, said, stepOf, silent}
 use Rattle.bench.specs.Calls as calls
 use Rattle.bench.specs.Columns.{portsOf}
 use Rattle.bench.proofs.Beside.{Eight, set-columns, getD-columns}
@@ -29,9 +37,7 @@ use Rattle.bench.proofs.Beside.{Eight, set-columns, getD-columns}
 -- ---- An act at the port in place k
 
 abbrev pub actPorts : List Port → ℕ → ℕ → Act → List Port
-actPorts l k at (Refused a) = l
-actPorts l k at (Accepted params) = set l k (acceptedPort (getD l k noPort) params at)
-actPorts l k at (Happens h) = set l k (stepOf (getD l k noPort) h .port)
+actPorts l k at a = calls.actedPorts l k (getD l k noPort) at a
 
 abbrev pub answerIn : Act → Answer
 answerIn (Refused a) = a
@@ -48,45 +54,79 @@ kept-or-refused false l k = refl
 placed-act : (l : List Port) (k at : ℕ) (a : Act)
     → benchOf (actPorts l k at a)
     ≡ cond (isTaken (calls.done (getD l k noPort) at a .reply .answer)) (benchOf (set l k (calls.done (getD l k noPort) at a .port))) (benchOf l)
-unfolding calls.done silent stepOf stored
+unfolding calls.done silent stepOf said
 placed-act l k at (Refused x) = kept-or-refused (isTaken x) l k
 placed-act l k at (Accepted params) = refl
 placed-act l k at (Happens h) = refl
 
 answer-act : (p : Port) (at : ℕ) (a : Act) → answerIn a ≡ calls.done p at a .reply .answer
-unfolding calls.done silent stepOf stored
+unfolding calls.done silent stepOf said
 answer-act p at (Refused x) = refl
 answer-act p at (Accepted params) = refl
 answer-act p at (Happens h) = refl
 
+abbrev afterOf : Bench → Reply → BenchAfter
+afterOf b r = record { bench = b; reply = r }
+
 module _ (l : List Port) (n at : ℕ) (act : Port → Act) where
   placed-by : (o : Bool) → (o ≡ true → (p : Port) → act p ≡ Refused answers.NoPort)
-      → benchOf (actPorts l (cond o 0 n) at (act (getD l (cond o 0 n) noPort)))
-      ≡ (let p = cond o newPort (getD l n noPort) in
-      cond (isTaken (calls.done p at (act p) .reply .answer)) (cond o (benchOf l) (benchOf (set l n (calls.done p at (act p) .port)))) (benchOf l))
+      → (let q = getD l (cond o 0 n) noPort in afterOf (benchOf (actPorts l (cond o 0 n) at (act q))) (calls.done q at (act q) .reply))
+      ≡ (let p = cond o newPort (getD l n noPort) in let r = calls.done p at (act p) in
+      afterOf (cond (isTaken (r .reply .answer)) (cond o (benchOf l) (benchOf (set l n (r .port)))) (benchOf l)) (r .reply))
   unfolding calls.done silent
   placed-by true h = rw (h refl (getD l 0 noPort), h refl newPort)
-  placed-by false h = placed-act l n at (act (getD l n noPort))
+  placed-by false h =
+      let p = getD l n noPort in
+      ap (λ (b : Bench). afterOf b (calls.done p at (act p) .reply)) (placed-act l n at (act p))
 
-  answer-placed : (o : Bool) → (o ≡ true → (p : Port) → act p ≡ Refused answers.NoPort)
-      → answerIn (act (getD l (cond o 0 n) noPort)) ≡ (let p = cond o newPort (getD l n noPort) in calls.done p at (act p) .reply .answer)
-  unfolding calls.done silent
-  answer-placed true h = rw (h refl (getD l 0 noPort), h refl newPort)
-  answer-placed false h = answer-act (getD l n noPort) at (act (getD l n noPort))
-
--- ---- A call that asks so of the port with its number
+-- ---- A call that asks so of the port with its number: the port in its place, or any where the number has none
 
 module _ (b : Bench) (port at : ℕ) (act : Setting → Act) (nowhere : outside 1 8 port ≡ true → (s : Setting) → act s ≡ Refused answers.NoPort) where
   abbrev inPlace : Port
   inPlace = getD (b .ports) (placeOf port .index) noPort
 
-  pub act-bench : benchOf (actPorts (b .ports) (placeOf port .index) at (act (inPlace .setting))) ≡ calls.placed b port (calls.done (portAt b port) at (act (portAt b port .setting))) .bench
+  pub act-after : calls.acted b (placeOf port .index) inPlace at (act (inPlace .setting)) ≡ calls.placed b port (calls.done (portAt b port) at (act (portAt b port .setting)))
   unfolding portAt withPort calls.placed
-  act-bench = placed-by (b .ports) (port - 1) at (λ p. act (p .setting)) (outside 1 8 port) (λ h p. nowhere h (p .setting))
+  act-after = placed-by (b .ports) (port - 1) at (λ p. act (p .setting)) (outside 1 8 port) (λ h p. nowhere h (p .setting))
+
+  pub act-bench : benchOf (actPorts (b .ports) (placeOf port .index) at (act (inPlace .setting))) ≡ calls.placed b port (calls.done (portAt b port) at (act (portAt b port .setting))) .bench
+  act-bench = ap (λ (r : BenchAfter). r .bench) act-after
 
   pub act-answer : answerIn (act (inPlace .setting)) ≡ calls.done (portAt b port) at (act (portAt b port .setting)) .reply .answer
-  unfolding portAt
-  act-answer = answer-placed (b .ports) (port - 1) at (λ p. act (p .setting)) (outside 1 8 port) (λ h p. nowhere h (p .setting))
+  unfolding calls.placed
+  act-answer = answer-act inPlace at (act (inPlace .setting)) ∙ ap (λ (r : BenchAfter). r .reply .answer) act-after
+
+-- ---- A number that no port has is refused, whatever stands in the place that is looked at; and only a block has a block
+
+pub no-block : (a : Answer) (h : Happening) → calls.hasBlock (calls.asked a h) ≡ false
+unfolding calls.asked
+no-block a h = cond-case (λ (t : Act). calls.hasBlock t ≡ false) (isTaken a) (λ _. refl) (λ _. refl)
+
+pub nowhere-response : (sign : ℕ → List ℕ → ℕ) (o : Bool) → o ≡ true → (s : Setting) (at : ℕ) (spdu : List ℕ) (holds : Bool) → calls.responseAct sign o s at spdu holds ≡ Refused answers.NoPort
+unfolding calls.asked
+nowhere-response sign true e s at spdu holds = refl
+nowhere-response sign false e s at spdu holds = no (sym e)
+
+pub nowhere-request : (sign : ℕ → List ℕ → ℕ) (o : Bool) → o ≡ true → (s : Setting) (at : ℕ) (spdu : List ℕ) (holds : Bool) → calls.requestAct sign o s at spdu holds ≡ Refused answers.NoPort
+unfolding calls.asked
+nowhere-request sign true e s at spdu holds = refl
+nowhere-request sign false e s at spdu holds = no (sym e)
+
+pub nowhere-clock : (o : Bool) → o ≡ true → (s : Setting) (at : ℕ) (holds : Bool) → calls.clockAct o s at holds ≡ Refused answers.NoPort
+unfolding calls.asked
+nowhere-clock true e s at holds = refl
+nowhere-clock false e s at holds = no (sym e)
+
+pub nowhere-operator : (o : Bool) → o ≡ true → (s : Setting) (at : ℕ) («setSD_C» «ChFAck_C» holds : Bool) → calls.operatorAct o s at «setSD_C» «ChFAck_C» holds ≡ Refused answers.NoPort
+unfolding calls.asked
+nowhere-operator true e s at «setSD_C» «ChFAck_C» holds = refl
+nowhere-operator false e s at «setSD_C» «ChFAck_C» holds = no (sym e)
+
+pub nowhere-block : (port : ℕ) (octets : List ℕ) → outside 1 8 port ≡ true → calls.parametersAct port octets ≡ Refused answers.NoPort
+unfolding calls.askedByBlock
+nowhere-block port octets e =
+    let later = drop 1 (rulesOn octets port) in
+    ap (λ (a : Answer). calls.askedByBlock (judgedAs a (paramsOf octets))) (onward later (ap (λ (o : Bool). answering.refused answers.Taken o answers.NoPort) e) ∙ stands answers.NoPort later refl)
 
 -- ---- In columns: what is stored there is what the act makes of the ports
 
@@ -141,6 +181,6 @@ module _ (s : List Setting) (l : List Live) (b : List (List ℕ)) (k at : ℕ) w
               ports =
                   ap (λ (z : List Setting). portsOf z (set l k (t .live)) (set b k bins)) (sym (set-getD s k xs))
                   ∙ set-columns s l b k setting (t .live) bins
-                  ∙ ap (λ (t : Turned). set (portsOf s l b) k (stored (record { setting = setting; live = live; bins = getD b k [] }) t .port)) turned
+                  ∙ ap (λ (t : Turned). set (portsOf s l b) k (stored (record { setting = setting; live = live; bins = getD b k [] }) t)) turned
                   ∙ ap (λ (q : Port). set (portsOf s l b) k (stepOf q h .port)) (sym port-is);
             })

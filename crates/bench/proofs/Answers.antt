@@ -21,7 +21,7 @@ use Rattle.scl.proofs.Cases.{no}
 use Rattle.bench.specs.declared.Port.{Port}
 use Rattle.bench.specs.declared.Bench.{Bench}
 use Rattle.bench.specs.declared.Act.the-variants.{Refused, Accepted, Happens}
-use Rattle.bench.specs.Ports.{portAt, stepOf, stored, silent}
+use Rattle.bench.specs.Ports.{portAt, stepOf, stored, said, silent}
 use Rattle.bench.specs.Calls.{callRules, asked, askedByBlock, done, placed, responseAt, requestAt, clockAt, operatorAt, parametersAt}
 use Rattle.bench.specs.Images.{composeAnswer, composed, buildAnswer, responseOut, splitAnswer, handedOn, handedTo, handedOut}
 use Rattle.bench.specs.Shown.{trendOf, binsOf, masterOf, deviceOf}
@@ -32,7 +32,7 @@ use Rattle.bench.proofs.Index.{placed-refused}
 -- ---- the answer
 
 pub asked-answer : (p : Port) (at : ℕ) (a : Answer) (h : Happening) → done p at (asked a h) .reply .answer ≡ a
-unfolding done asked stepOf stored silent
+unfolding done asked stepOf stored said silent
 asked-answer p at a h = go (isTaken a) refl
   where
     go : (b : Bool) → isTaken a ≡ b → done p at (cond b (Happens h) (Refused a)) .reply .answer ≡ a

@@ -37,7 +37,7 @@ use Rattle.histogram.specs.Trends.{Shows}
 use Rattle.samples.specs.Tallied.{talliedBy}
 use Rattle.samples.specs.Samples.{oldBy, sentSince, answered, timeOf, isSample, samples}
 use Rattle.bench.specs.declared.Port.{Port}
-use Rattle.bench.specs.Ports.{newPort, acceptedPort, newBench, noPort, portAt, withPort, turnOf, stored, stepOf, silent}
+use Rattle.bench.specs.Ports.{newPort, acceptedPort, newBench, noPort, portAt, withPort, turnOf, stored, said, stepOf, silent}
 use Rattle.bench.specs.Regular.{isRegular, regularOf}
 use Rattle.bench.specs.Calls as calls
 use Rattle.bench.specs.Images.{composeAnswer, composed, buildAnswer, responseOut, handedTo, handedOut}
@@ -125,7 +125,7 @@ record Asked : Type 0 where
   one-sample : samples 1000 100 past ≡ 10 ∷ []
 
 asked : Asked
-unfolding hadErrorOrTimeout deviceAfter samples isSample timeOf sentSince answered oldBy masterAfter judgedIn passesBy sinceBlock extended goesOn portOf answerOf after history calls.placed calls.asked calls.askedByBlock calls.done portAt withPort newBench newPort noPort acceptedPort turnOf stored stepOf talliedBy silent signing.signature signing.octet signing.shiftInAll signing.shiftIn elapsedOf table38.watchdogRow table38.isOld table38.isTaken table38.checked table38.from8 table38.arrivalRow table38.taken table38.sampleFrom table38.t4 table38.acted masters.judged masters.quiet masters.arrived masters.received masters.watched masters.stepOf table40.watchdogRow table40.isTaken table40.checked table40.arrivalRow table40.taken table40.t22 table40.t25 table40.t28 table40.t29 table40.acted devices.judged devices.quiet devices.arrived devices.received devices.watched devices.stepOf counted.frozenOf counted.withSample counted.countedOf counted.totalledOf
+unfolding hadErrorOrTimeout deviceAfter samples isSample timeOf sentSince answered oldBy masterAfter judgedIn passesBy sinceBlock extended goesOn portOf answerOf after history calls.placed calls.asked calls.askedByBlock calls.done portAt withPort newBench newPort noPort acceptedPort turnOf stored said stepOf talliedBy silent signing.signature signing.octet signing.shiftInAll signing.shiftIn elapsedOf table38.watchdogRow table38.isOld table38.isTaken table38.checked table38.from8 table38.arrivalRow table38.taken table38.sampleFrom table38.t4 table38.acted masters.judged masters.quiet masters.arrived masters.received masters.watched masters.stepOf table40.watchdogRow table40.isTaken table40.checked table40.arrivalRow table40.taken table40.t22 table40.t25 table40.t28 table40.t29 table40.acted devices.judged devices.quiet devices.arrived devices.received devices.watched devices.stepOf counted.frozenOf counted.withSample counted.countedOf counted.totalledOf
 asked = record {
   block = refl;
   runs = refl;
@@ -234,7 +234,7 @@ pub record Handed : Type 0 where
   device-fresh-only : deviceSpecs.FreshBy (before .live .device) (before .setting .params .«FSP_WatchdogTime») (happening.Request 1070 readRequest)
 
 pub handed-met : Handed
-unfolding portOf answerOf after history calls.placed calls.asked calls.askedByBlock calls.done portAt withPort newBench newPort noPort acceptedPort turnOf stored stepOf talliedBy silent signing.signature signing.octet signing.shiftInAll signing.shiftIn elapsedOf table38.watchdogRow table38.isOld table38.isTaken table38.checked table38.from8 table38.arrivalRow table38.taken table38.sampleFrom table38.t4 table38.acted masters.judged masters.quiet masters.arrived masters.received masters.watched masters.operated table38.signalled masters.stepOf table40.watchdogRow table40.isTaken table40.checked table40.arrivalRow table40.taken table40.t22 table40.t25 table40.t28 table40.t29 table40.acted devices.judged devices.quiet devices.arrived devices.received devices.watched devices.stepOf counted.frozenOf counted.withSample counted.countedOf counted.totalledOf
+unfolding portOf answerOf after history calls.placed calls.asked calls.askedByBlock calls.done portAt withPort newBench newPort noPort acceptedPort turnOf stored said stepOf talliedBy silent signing.signature signing.octet signing.shiftInAll signing.shiftIn elapsedOf table38.watchdogRow table38.isOld table38.isTaken table38.checked table38.from8 table38.arrivalRow table38.taken table38.sampleFrom table38.t4 table38.acted masters.judged masters.quiet masters.arrived masters.received masters.watched masters.operated table38.signalled masters.stepOf table40.watchdogRow table40.isTaken table40.checked table40.arrivalRow table40.taken table40.t22 table40.t25 table40.t28 table40.t29 table40.acted devices.judged devices.quiet devices.arrived devices.received devices.watched devices.stepOf counted.frozenOf counted.withSample counted.countedOf counted.totalledOf
 handed-met = record {
   response-hands-on = handing.response-hands-on 1 begun 1010 response safe refl;
   request-hands-on = handing.request-hands-on 1 before 1070 request safe refl;

@@ -35,7 +35,7 @@ use Rattle.fs_device.specs.Calls as devices
 use Rattle.fs_device.specs.History as deviceSpecs
 use Rattle.fs_device.proofs.Release as deviceRelease
 use Rattle.bench.specs.declared.Port.{Port}
-use Rattle.bench.specs.Ports.{turnOf, stored, stepOf, silent}
+use Rattle.bench.specs.Ports.{turnOf, stored, said, stepOf, silent}
 use Rattle.bench.specs.Calls.{responseRules, requestRules, clockRules, operatorRules, safeInHold, safeOutHold, asked, done, responseAt, requestAt, clockAt, operatorAt}
 use Rattle.bench.specs.History.{handsOn, octetsIn, octetsOut, responseTaken, requestTaken}
 use Rattle.answer.proofs.Exact.{taken-exactly}
@@ -103,7 +103,7 @@ module _ (port : ℕ) (p : Port) (at : ℕ) where
       → let r = responseAt port p at spdu safe .reply in
       let f = responseBy byBits (p .setting .params) spdu in
       handed (r .master) spdu safe ≡ handsOn (r .«master_releases») (responseTaken p at f) (processOf (p .setting .params .«FSP_ProtMode») spdu) (octetsIn p)
-  unfolding stepOf stored turnOf
+  unfolding stepOf stored said turnOf
   response-hands-on spdu safe t =
       let f = responseBy byBits (p .setting .params) spdu in
       let rules = responseRules port (p .setting) (length spdu) safe in
@@ -116,7 +116,7 @@ module _ (port : ℕ) (p : Port) (at : ℕ) where
       → let r = requestAt port p at spdu safe .reply in
       let q = requestBy byBits (p .setting .params) spdu in
       handed (r .device) spdu safe ≡ handsOn (r .«device_releases») (requestTaken p at q) (processOf (p .setting .params .«FSP_ProtMode») spdu) (octetsOut p)
-  unfolding stepOf stored turnOf
+  unfolding stepOf stored said turnOf
   request-hands-on spdu safe t =
       let q = requestBy byBits (p .setting .params) spdu in
       let rules = requestRules port (p .setting) (length spdu) safe in
@@ -132,13 +132,13 @@ module _ (port : ℕ) (p : Port) (at : ℕ) where
         not-false (safeInHold (p .setting .params) safeIn && safeOutHold (p .setting .params) safeOut) (kept .each 2)
 
     pub clock-hands-on-in : let r = clockAt port p at safeIn safeOut .reply in handed (r .master) [] safeIn ≡ handsOn (r .«master_releases») false [] (octetsIn p)
-    unfolding stepOf stored turnOf masters.stepOf masters.watched masters.quiet
+    unfolding stepOf stored said turnOf masters.stepOf masters.watched masters.quiet
     clock-hands-on-in =
         rw (asked-taken p at (answerBy Taken (clockRules port (p .setting) safeIn safeOut)) (happening.Clock at) t)
         (hands false (stepOf p (happening.Clock at) .reply .«master_releases») (p .setting .params .«FSP_ProtMode») (p .setting .params .SPDUInLength) [] safeIn refl (and-left (safeInHold (p .setting .params) safeIn) (safeOutHold (p .setting .params) safeOut) both-hold))
 
     pub clock-hands-on-out : let r = clockAt port p at safeIn safeOut .reply in handed (r .device) [] safeOut ≡ handsOn (r .«device_releases») false [] (octetsOut p)
-    unfolding stepOf stored turnOf devices.stepOf devices.watched devices.quiet
+    unfolding stepOf stored said turnOf devices.stepOf devices.watched devices.quiet
     clock-hands-on-out =
         rw (asked-taken p at (answerBy Taken (clockRules port (p .setting) safeIn safeOut)) (happening.Clock at) t)
         (hands false (stepOf p (happening.Clock at) .reply .«device_releases») (p .setting .params .«FSP_ProtMode») (p .setting .params .SPDUOutLength) [] safeOut refl (and-right (safeInHold (p .setting .params) safeIn) (safeOutHold (p .setting .params) safeOut) both-hold))
@@ -147,7 +147,7 @@ module _ (port : ℕ) (p : Port) (at : ℕ) where
   pub operator-hands-on : («setSD_C» «ChFAck_C» : Bool) (safe : List ℕ) → isTaken (answerBy Taken (operatorRules port (p .setting) safe)) ≡ true
       → let r = operatorAt port p at «setSD_C» «ChFAck_C» safe .reply in
       handed (r .master) [] safe ≡ handsOn (r .«master_releases») false [] (octetsIn p)
-  unfolding stepOf stored turnOf masters.stepOf masters.operated masters.quiet
+  unfolding stepOf stored said turnOf masters.stepOf masters.operated masters.quiet
   operator-hands-on «setSD_C» «ChFAck_C» safe t =
       let rules = operatorRules port (p .setting) safe in
       let kept : Kept rules = taken-exactly rules tt tt .0 t in
@@ -163,18 +163,18 @@ refused-hands-on p at a h t = simp t
 
 -- At the FS-Master: T4 and T11 under their conditions (`Releases`), and then always.
 pub master-fresh-only : (p : Port) (h : Happening) → stepOf p h .reply .master ≡ Fresh → masterSpecs.FreshBy (p .live .master) (p .setting .params .«FSP_WatchdogTime») h
-unfolding stepOf stored turnOf
+unfolding stepOf stored said turnOf
 master-fresh-only p h e = masterRelease.fresh-only (p .live .master) (p .setting .params .«FSP_WatchdogTime») h e
 
 pub master-fresh-if : (p : Port) (at : ℕ) (f : Response) → masterSpecs.Releases (masters.judged (p .live .master) (p .setting .params .«FSP_WatchdogTime») at) f → stepOf p (happening.Response at f) .reply .master ≡ Fresh
-unfolding stepOf stored turnOf
+unfolding stepOf stored said turnOf
 master-fresh-if p at f r = masterRelease.fresh-if (p .live .master) (p .setting .params .«FSP_WatchdogTime») at f r
 
 -- At the FS-Device: T22 with SDcycles 0 and setSD 0, and then always.
 pub device-fresh-only : (p : Port) (h : Happening) → stepOf p h .reply .device ≡ Fresh → deviceSpecs.FreshBy (p .live .device) (p .setting .params .«FSP_WatchdogTime») h
-unfolding stepOf stored turnOf
+unfolding stepOf stored said turnOf
 device-fresh-only p h e = deviceRelease.fresh-only (p .live .device) (p .setting .params .«FSP_WatchdogTime») h e
 
 pub device-fresh-if : (p : Port) (at : ℕ) (q : Request) → deviceSpecs.Releases (devices.judged (p .live .device) (p .setting .params .«FSP_WatchdogTime») at) q → stepOf p (happening.Request at q) .reply .device ≡ Fresh
-unfolding stepOf stored turnOf
+unfolding stepOf stored said turnOf
 device-fresh-if p at q r = deviceRelease.fresh-if (p .live .device) (p .setting .params .«FSP_WatchdogTime») at q r

@@ -29,7 +29,7 @@ use Rattle.samples.specs.Tallied.{movedOf, stepped}
 use Rattle.samples.specs.Samples.{samples, histogramAfter}
 use Rattle.samples.proofs.Counted.{samples-within, samples-held, tallied-parts}
 use Rattle.bench.specs.declared.Port.{Port}
-use Rattle.bench.specs.Ports.{histogramOf, newPort, acceptedPort, portAt, turnOf, stored, stepOf}
+use Rattle.bench.specs.Ports.{histogramOf, newPort, acceptedPort, portAt, turnOf, stored, said, stepOf}
 use Rattle.bench.specs.History.{Call, SetParameters, ReceiveResponse, ReceiveRequest, Clock, Operator, WithoutReading, portOf, rulesOf, answerOf, after, history, Since, never, since, goesOn, extended, sinceBlock, StandsSince, Stands}
 use Rattle.bench.proofs.Index.{new-at}
 use Rattle.bench.proofs.Answers.{answer-is, exactly, refused-same}
@@ -42,7 +42,7 @@ module _ (p : Port) (at : ℕ) (params : Params) (past : List Happening) (s : St
   watchdog-is = ap (λ (q : Params). q .«FSP_WatchdogTime») (s .parameters)
 
   histogram-is : histogramOf (stepOf p h .port) ≡ histogramAfter at (params .«FSP_WatchdogTime») (h ∷ past)
-  unfolding stepOf stored turnOf histogramAfter
+  unfolding stepOf stored said turnOf histogramAfter
   histogram-is =
       let m = movedOf (p .live .master) (p .setting .params .«FSP_WatchdogTime») h in
       sym (tallied-parts (p .live .totals) (p .bins) (p .setting .params .«FSP_WatchdogTime») (m .«passes_anew») (m .t))
@@ -50,7 +50,7 @@ module _ (p : Port) (at : ℕ) (params : Params) (past : List Happening) (s : St
       ∙ ap₂ (λ (m : Master) (w : ℕ). stepped (histogramAfter at (params .«FSP_WatchdogTime») past) m w h) (s .master) watchdog-is
 
   step-stands : StandsSince (stepOf p h .port) at params (h ∷ past)
-  unfolding stepOf stored turnOf masterAfter deviceAfter
+  unfolding stepOf stored said turnOf masterAfter deviceAfter
   step-stands = record {
     running = s .running;
     parameters = s .parameters;

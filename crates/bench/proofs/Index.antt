@@ -12,8 +12,7 @@ use Rattle.ranges.specs.Fields.{outside}
 use Rattle.scl.proofs.Cases.{cond-case, no, and-left, and-right}
 use Rattle.bench.specs.declared.Port.{Port}
 use Rattle.bench.specs.declared.Bench.{Bench}
-use Rattle.bench.specs.declared.PortAfter.{PortAfter}
-use Rattle.bench.specs.Ports.{newPort, noPort, newBench, portAt, withPort}
+use Rattle.bench.specs.Ports.{PortAfter, newPort, noPort, newBench, portAt, withPort}
 use Rattle.bench.specs.Calls.{placed}
 
 kept : (b : Bool) → not b ≡ false → b ≡ true

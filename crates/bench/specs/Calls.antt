@@ -1,9 +1,9 @@
 -- The calls with a clock reading: their rules in 01's order (R27), what they ask of a port, and what that makes of it. Assumes nothing.
 use Prim.Native.Nat.{ℕ}
-use mathlib.Core.Bool.{Bool, cond, not, _&&_}
+use mathlib.Core.Bool.{Bool, true, false, cond, not, _&&_}
 use mathlib.Core.List.{List, [], _∷_, _++_}
 use lib.Dec.{eqb}
-use lib.ListN.{length}
+use lib.ListN.{length, set}
 use Rattle.answer.specs.declared.Answer.{Answer}
 use Rattle.answer.specs.declared.Answer.the-variants.{Taken, Buffer, NoPort, NotRunning, SpduLength}
 use Rattle.answer.specs.Answers.{isTaken}
@@ -22,25 +22,24 @@ use Rattle.bench.specs.declared.Port.{Port}
 use Rattle.bench.specs.declared.Bench.{Bench}
 use Rattle.bench.specs.declared.Act.{Act}
 use Rattle.bench.specs.declared.Act.the-variants.{Refused, Accepted, Happens}
-use Rattle.bench.specs.declared.PortAfter.{PortAfter}
 use Rattle.bench.specs.declared.BenchAfter.{BenchAfter}
-use Rattle.bench.specs.Ports.{acceptedPort, portAt, withPort, stepOf, silent}
+use Rattle.bench.specs.Ports.{PortAfter, acceptedPort, portAt, withPort, stepOf, silent}
 
 -- Rules. s is the setting of the port addressed; o says that no port has the number. "For every other call: 8, 9, 10, 7, 11."
 
--- 8 and 9
-abbrev pub rulesIf : Bool → Setting → List Rule
-rulesIf o s = rule o NoPort ∷ rule (not (s .running)) NotRunning ∷ []
+-- 8 and 9, of the port itself
+abbrev pub portRules : Bool → Setting → List Rule
+portRules o s = rule o NoPort ∷ rule (not (s .running)) NotRunning ∷ []
 
 abbrev pub callRules : ℕ → Setting → List Rule
-callRules port s = rulesIf (outside 1 8 port) s
+callRules port s = portRules (outside 1 8 port) s
 
 -- 10: a received SPDU of n octets, where m are configured; 7: the safe values lent do not hold
 abbrev pub spduRules : Bool → Setting → ℕ → ℕ → Bool → List Rule
-spduRules o s m n holds = rulesIf o s ++ (rule (not (eqb n m)) SpduLength ∷ rule (not holds) Buffer ∷ [])
+spduRules o s m n holds = portRules o s ++ (rule (not (eqb n m)) SpduLength ∷ rule (not holds) Buffer ∷ [])
 
 abbrev pub otherRules : Bool → Setting → Bool → List Rule
-otherRules o s holds = rulesIf o s ++ (rule (not holds) Buffer ∷ [])
+otherRules o s holds = portRules o s ++ (rule (not holds) Buffer ∷ [])
 
 -- the safe values that hold: the FS-Master's (as many zeros as its SPDU has process octets) and the FS-Device's
 abbrev pub safeInHold : Params → List ℕ → Bool
@@ -92,6 +91,21 @@ unfoldable pub done : Port → ℕ → Act → PortAfter
 done p at (Refused a) = record { port = p; reply = silent a }
 done p at (Accepted params) = record { port = acceptedPort p params at; reply = silent Taken }
 done p at (Happens h) = stepOf p h
+
+-- The same in place k of a bench, for the port p that stands there: a refusal stores nothing.
+abbrev pub actedPorts : List Port → ℕ → Port → ℕ → Act → List Port
+actedPorts l k p at (Refused a) = l
+actedPorts l k p at (Accepted params) = set l k (acceptedPort p params at)
+actedPorts l k p at (Happens h) = set l k (stepOf p h .port)
+
+abbrev pub acted : Bench → ℕ → Port → ℕ → Act → BenchAfter
+acted b k p at a = record { bench = record { ports = actedPorts (b .ports) k p at a }; reply = done p at a .reply }
+
+-- parameters are accepted
+abbrev pub hasBlock : Act → Bool
+hasBlock (Refused a) = false
+hasBlock (Accepted params) = true
+hasBlock (Happens h) = false
 
 abbrev pub parametersAt : ℕ → Port → ℕ → List ℕ → PortAfter
 parametersAt port p at octets = done p at (parametersAct port octets)

@@ -24,7 +24,6 @@ use Rattle.bench.specs.declared.Bench.{Bench}
 use Rattle.bench.specs.declared.Place.{Place}
 use Rattle.bench.specs.declared.Turned.{Turned}
 use Rattle.bench.specs.declared.Reply.{Reply}
-use Rattle.bench.specs.declared.PortAfter.{PortAfter}
 
 -- the histogram of a port, whose totals move with the ends and whose bins stand apart
 abbrev pub histogramOf : Port → Histogram
@@ -128,21 +127,27 @@ turnOf s l h =
       device = d .mark;
     }
 
--- the port with what a turn moves, and what the call says
-unfoldable pub stored : Port → Turned → PortAfter
-stored p t = record {
-  port = record { setting = p .setting; live = t .live; bins = raisedIf (t .counts) (p .bins) (t .bin) };
-  reply = record {
-    answer = Taken;
-    master = t .master;
-    device = t .device;
-    «master_releases» = t .live .master .released;
-    «device_releases» = t .live .device .released;
-  };
+-- the port with what a turn moves
+unfoldable pub stored : Port → Turned → Port
+stored p t = record { setting = p .setting; live = t .live; bins = raisedIf (t .counts) (p .bins) (t .bin) }
+
+-- what the call says
+unfoldable pub said : Turned → Reply
+said t = record {
+  answer = Taken;
+  master = t .master;
+  device = t .device;
+  «master_releases» = t .live .master .released;
+  «device_releases» = t .live .device .released;
 }
 
+-- a call at one port
+pub record PortAfter : Type 0 where
+  pub port : Port
+  pub reply : Reply
+
 unfoldable pub stepOf : Port → Happening → PortAfter
-stepOf p h = stored p (turnOf (p .setting) (p .live) h)
+stepOf p h = let t = turnOf (p .setting) (p .live) h in record { port = stored p t; reply = said t }
 
 -- nothing is handed on: in a refusal, and in a parameter block, which lends no safe values
 unfoldable pub silent : Answer → Reply

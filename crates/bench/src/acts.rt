@@ -31,7 +31,7 @@ pub fn place_of(port: u8) -> Place
 
 // 8 and 9.
 fn call_answer(outside: bool, setting: Setting) -> Answer
-    ensures { λ r. ⌜ r ≡ answerBy answers.Taken (calls.rulesIf outside setting) ⌝ }
+    ensures { λ r. ⌜ r ≡ answerBy answers.Taken (calls.portRules outside setting) ⌝ }
 {
     let a = refuse(Answer::Taken, outside, Answer::NoPort);
     refuse(a, !setting.running, Answer::NotRunning)

@@ -1,23 +1,30 @@
 // The calls with a clock reading, at a port of the bench.
+ghost use Prim.Native.Nat.{ℕ, _<_};
 ghost use mathlib.Core.Path.{_≡_};
+ghost use mathlib.Core.Bool.{false};
+ghost use lib.ListN.{set};
+ghost use Rattle.bench.specs.declared.Act.the-variants as acts;
 ghost use Rattle.bench.specs.Ports as ports;
 ghost use Rattle.bench.specs.Calls as calls;
 use crate::Act;
 use crate::Bench;
 use crate::BenchAfter;
 use crate::Port;
-use crate::PortAfter;
 use crate::acts::clock_act;
 use crate::acts::operator_act;
 use crate::acts::parameters_act;
 use crate::acts::place_of;
 use crate::acts::request_act;
 use crate::acts::response_act;
-use crate::at_port::done;
+use crate::at_port::accepted_port;
 use crate::at_port::new_port;
-use crate::at_port::refused;
-use crate::at_port::set_up;
+use crate::at_port::said;
+use crate::at_port::silent;
+use crate::at_port::stored;
+use crate::turns::turn;
+use answer::Answer;
 use block::Params;
+use scl::Happening;
 
 pub(crate) fn port_at(b: Bench, port: u8) -> Port
     ensures { λ r. ⌜ r ≡ ports.portAt b port ⌝ }
@@ -30,32 +37,72 @@ pub(crate) fn port_at(b: Bench, port: u8) -> Port
     b.ports[i]
 }
 
-fn with_port(b: Bench, port: u8, p: Port) -> Bench
-    ensures { λ r. ⌜ r ≡ ports.withPort b port p ⌝ }
+// The bench with another port in place i.
+fn with_port(b: Bench, i: usize, p: Port) -> Bench
+    requires { ⌜ i < 8 ⌝ }
+    ensures { λ r. ⌜ r ≡ record { ports = set (b .ports) i p } ⌝ }
 {
-    let place = place_of(port);
-    if place.outside {
-        return b;
-    }
-    let i = place.index;
     let mut n = b;
     n.ports[i] = p;
     n
 }
 
-fn placed(b: Bench, port: u8, after: PortAfter) -> BenchAfter
-    ensures { λ r. ⌜ r ≡ calls.placed b port after ⌝ }
+// A refused call.
+fn refused(b: Bench, answer: Answer) -> BenchAfter
+    ensures { λ r. ⌜ r ≡ record { bench = b; reply = ports.silent answer } ⌝ }
 {
-    let reply = after.reply;
-    let answer = reply.answer;
-    if answer::is_taken(answer) {
-        let p = after.port;
-        BenchAfter {
-            bench: with_port(b, port, p),
-            reply,
-        }
-    } else {
-        BenchAfter { bench: b, reply }
+    BenchAfter {
+        bench: b,
+        reply: silent(answer),
+    }
+}
+
+// An accepted block, at the port p in place i.
+fn set_up(b: Bench, i: usize, p: Port, at: u32, params: Params) -> BenchAfter
+    requires { ⌜ i < 8 ⌝ }
+    ensures { λ r. ⌜ r ≡ calls.acted b i p at (acts.Accepted params) ⌝ }
+{
+    BenchAfter {
+        bench: with_port(b, i, accepted_port(p, params, at)),
+        reply: silent(Answer::Taken),
+    }
+}
+
+// A happening at the port p in place i.
+fn stepped(b: Bench, i: usize, p: Port, happening: Happening) -> BenchAfter
+    requires { ⌜ i < 8 ⌝ }
+    ensures { λ r. ⌜ ((at : ℕ) → (r ≡ calls.acted b i p at (acts.Happens happening))) ⌝ }
+{
+    let turned = turn(p.setting, p.live, happening);
+    BenchAfter {
+        bench: with_port(b, i, stored(p, turned)),
+        reply: said(turned),
+    }
+}
+
+// An act at the port p in place i, with the reading of its call.
+fn acted(b: Bench, i: usize, p: Port, at: u32, act: Act) -> BenchAfter
+    requires { ⌜ i < 8 ⌝ }
+    ensures { λ r. ⌜ r ≡ calls.acted b i p at act ⌝ }
+{
+    match act {
+        Act::Refused(answer) => refused(b, answer),
+        Act::Accepted(params) => set_up(b, i, p, at, params),
+        Act::Happens(happening) => stepped(b, i, p, happening),
+    }
+}
+
+// The same of a call that has no block, so that the last arm is never entered. It stands apart for the compiler, which puts it in line at each of
+// these calls; with the block's arm it would be called, and the bench copied on the way in and out.
+fn happened(b: Bench, i: usize, p: Port, act: Act) -> BenchAfter
+    requires { ⌜ i < 8 ⌝ }
+    requires { ⌜ calls.hasBlock act ≡ false ⌝ }
+    ensures { λ r. ⌜ ((at : ℕ) → (r ≡ calls.acted b i p at act)) ⌝ }
+{
+    match act {
+        Act::Refused(answer) => refused(b, answer),
+        Act::Happens(happening) => stepped(b, i, p, happening),
+        Act::Accepted(_) => refused(b, Answer::Taken),
     }
 }
 
@@ -71,64 +118,54 @@ fn safe_out_hold(params: Params, safe: &[u8]) -> bool
     spdu::safe_values_hold(params.FSP_ProtMode, params.SPDUOutLength as usize, safe)
 }
 
-// A block's act at its port: `done` written out, so that the compiler, which sees that it is no happening, leaves the turn out.
-fn set(b: Bench, port: u8, at: u32, act: Act) -> BenchAfter
-    ensures { λ r. ⌜ r ≡ calls.placed b port (calls.done (ports.portAt b port) at act) ⌝ }
-{
-    let p = port_at(b, port);
-    match act {
-        Act::Refused(answer) => placed(b, port, refused(p, answer)),
-        Act::Accepted(params) => placed(b, port, set_up(p, at, params)),
-        _ => placed(b, port, done(p, at, act)),
-    }
-}
-
 pub fn set_parameters(b: Bench, port: u8, at: u32, octets: &[u8]) -> BenchAfter
     ensures { λ r. ⌜ r ≡ calls.setParameters b port at (now (octets .entry)) ⌝ }
 {
-    set(b, port, at, parameters_act(port, octets))
+    let place = place_of(port);
+    let i = place.index;
+    let p = b.ports[i];
+    acted(b, i, p, at, parameters_act(port, octets))
 }
 
 // An SPDU received as FS-Master, with as many zeros as it has process octets.
 pub fn receive_response(b: Bench, port: u8, at: u32, spdu: &[u8], safe: &[u8]) -> BenchAfter
     ensures { λ r. ⌜ r ≡ calls.receiveResponse b port at (now (spdu .entry)) (now (safe .entry)) ⌝ }
 {
-    let p = port_at(b, port);
+    let place = place_of(port);
+    let i = place.index;
+    let p = b.ports[i];
     let short = signature::table16();
     let long = signature::table32();
     let setting = p.setting;
     let holds = safe_in_hold(setting.params, safe);
-    let place = place_of(port);
     let act = response_act(&short, &long, place.outside, setting, at, spdu, holds);
-    placed(b, port, done(p, at, act))
+    happened(b, i, p, act)
 }
 
 // An SPDU received as FS-Device, with as many zeros as it has process octets.
 pub fn receive_request(b: Bench, port: u8, at: u32, spdu: &[u8], safe: &[u8]) -> BenchAfter
     ensures { λ r. ⌜ r ≡ calls.receiveRequest b port at (now (spdu .entry)) (now (safe .entry)) ⌝ }
 {
-    let p = port_at(b, port);
+    let place = place_of(port);
+    let i = place.index;
+    let p = b.ports[i];
     let short = signature::table16();
     let long = signature::table32();
     let setting = p.setting;
     let holds = safe_out_hold(setting.params, safe);
-    let place = place_of(port);
     let act = request_act(&short, &long, place.outside, setting, at, spdu, holds);
-    placed(b, port, done(p, at, act))
+    happened(b, i, p, act)
 }
 
 pub fn clock(b: Bench, port: u8, at: u32, safe_in: &[u8], safe_out: &[u8]) -> BenchAfter
     ensures { λ r. ⌜ r ≡ calls.clock b port at (now («safe_in» .entry)) (now («safe_out» .entry)) ⌝ }
 {
-    let p = port_at(b, port);
+    let place = place_of(port);
+    let i = place.index;
+    let p = b.ports[i];
     let setting = p.setting;
     let hold = safe_in_hold(setting.params, safe_in) & safe_out_hold(setting.params, safe_out);
-    let place = place_of(port);
-    placed(
-        b,
-        port,
-        done(p, at, clock_act(place.outside, setting, at, hold)),
-    )
+    happened(b, i, p, clock_act(place.outside, setting, at, hold))
 }
 
 pub fn operator(
@@ -141,10 +178,11 @@ pub fn operator(
 ) -> BenchAfter
     ensures { λ r. ⌜ r ≡ calls.operator b port at «setSD_C» «ChFAck_C» (now (safe .entry)) ⌝ }
 {
-    let p = port_at(b, port);
+    let place = place_of(port);
+    let i = place.index;
+    let p = b.ports[i];
     let setting = p.setting;
     let holds = safe_in_hold(setting.params, safe);
-    let place = place_of(port);
     let act = operator_act(place.outside, setting, at, setSD_C, ChFAck_C, holds);
-    placed(b, port, done(p, at, act))
+    happened(b, i, p, act)
 }

@@ -118,13 +118,7 @@ pub struct Reply {
     pub device_releases: bool,
 }
 
-// A call at one port.
-pub struct PortAfter {
-    pub port: Port,
-    pub reply: Reply,
-}
-
-// The same at the bench.
+// The bench after a call.
 pub struct BenchAfter {
     pub bench: Bench,
     pub reply: Reply,

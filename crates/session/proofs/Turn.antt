@@ -1,18 +1,11 @@
 -- What a record asks of the port in its place is what its call does to the bench. Assumes nothing.
 use mathlib.Core.Path.{_≡_, refl, sym, ap, _∙_}
 use mathlib.Core.Bool.{Bool, true, false, cond, _&&_}
-use mathlib.Core.List.{List, _∷_}
 use lib.Dec.{eqb}
-use lib.ListN.{getD, drop}
-use Rattle.answer.specs.declared.Answer.{Answer}
+use lib.ListN.{getD}
 use Rattle.answer.specs.declared.Answer.the-variants as answers
-use Rattle.answer.specs.Rules.{Rule, rule, refused, answerBy}
-use Rattle.answer.proofs.Exact.{onward, stands}
 use Rattle.ranges.specs.Fields.{outside}
 use Rattle.block.specs.declared.Params.{Params}
-use Rattle.block.specs.Rules.{rulesOn, judgedAs}
-use Rattle.block.specs.Table22.{paramsOf}
-use Rattle.scl.proofs.Cases.{no}
 use Rattle.spdu.specs.Signature.{byBits}
 use Rattle.bench.specs.declared.Setting.{Setting}
 use Rattle.bench.specs.declared.Port.{Port}
@@ -22,7 +15,7 @@ use Rattle.bench.specs.declared.Act.the-variants.{Refused}
 use Rattle.bench.specs.Ports.{noPort, placeOf, portAt}
 use Rattle.bench.specs.Calls as calls
 use Rattle.bench.specs.History.{answerOf, after}
-use Rattle.bench.proofs.Acted.{benchOf, actPorts, answerIn, act-bench, act-answer}
+use Rattle.bench.proofs.Acted.{benchOf, actPorts, answerIn, act-bench, act-answer, nowhere-block, nowhere-response, nowhere-clock, nowhere-operator}
 use Rattle.session.specs.Run.{Entry, safeIn, safeOut, setSDIn, ackIn, actBy, callOf}
 use Rattle.session.proofs.Seven.{safe-in, safe-out, call}
 
@@ -80,19 +73,14 @@ module _ (b : Bench) (e : Entry) where
 
 -- ---- A number that no port has is refused, whatever port stands in its place
 
-no-port : (rules : List Rule) → answerBy answers.Taken (rule true answers.NoPort ∷ rules) ≡ answers.NoPort
-no-port rules = stands answers.NoPort rules refl
-
-out-of-range : (o k₁ k₂ k₃ : Bool) (s : Setting) (e : Entry) → outside 1 8 (e .port) ≡ o → o ≡ true
-    → cond k₁ (calls.parametersAct (e .port) (e .octets)) (cond k₂ (calls.responseAct byBits o s (e .at) (e .octets) true) (cond k₃ (calls.clockAct o s (e .at) true) (calls.operatorAct o s (e .at) (setSDIn (e .octets)) (ackIn (e .octets)) true)))
+-- `k₁`, `k₂`, `k₃`: the record has a block, a response, a clock reading
+out-of-range : (k₁ k₂ k₃ : Bool) (s : Setting) (e : Entry) → outside 1 8 (e .port) ≡ true
+    → cond k₁ (calls.parametersAct (e .port) (e .octets)) (cond k₂ (calls.responseAct byBits (outside 1 8 (e .port)) s (e .at) (e .octets) true) (cond k₃ (calls.clockAct (outside 1 8 (e .port)) s (e .at) true) (calls.operatorAct (outside 1 8 (e .port)) s (e .at) (setSDIn (e .octets)) (ackIn (e .octets)) true)))
     ≡ Refused answers.NoPort
-unfolding calls.asked calls.askedByBlock
-out-of-range true true k₂ k₃ s e h h′ =
-    ap (λ (a : Answer). calls.askedByBlock (judgedAs a (paramsOf (e .octets)))) (onward (drop 1 (rulesOn (e .octets) (e .port))) (ap (λ (o : Bool). refused answers.Taken o answers.NoPort) h) ∙ no-port (drop 1 (rulesOn (e .octets) (e .port))))
-out-of-range true false true k₃ s e h h′ = refl
-out-of-range true false false true s e h h′ = refl
-out-of-range true false false false s e h h′ = refl
-out-of-range false k₁ k₂ k₃ s e h h′ = no (sym h′)
+out-of-range true k₂ k₃ s e h = nowhere-block (e .port) (e .octets) h
+out-of-range false true k₃ s e h = nowhere-response byBits (outside 1 8 (e .port)) h s (e .at) (e .octets) true
+out-of-range false false true s e h = nowhere-clock (outside 1 8 (e .port)) h s (e .at) true
+out-of-range false false false s e h = nowhere-operator (outside 1 8 (e .port)) h s (e .at) (setSDIn (e .octets)) (ackIn (e .octets)) true
 
 -- ---- At the bench
 
@@ -101,7 +89,7 @@ module _ (b : Bench) (e : Entry) where
   actAt s = actBy byBits (outside 1 8 (e .port)) s e
 
   nowhere : outside 1 8 (e .port) ≡ true → (s : Setting) → actAt s ≡ Refused answers.NoPort
-  nowhere h s = out-of-range (outside 1 8 (e .port)) (eqb (e .kind) 1) (eqb (e .kind) 2) (eqb (e .kind) 3) s e refl h
+  nowhere h s = out-of-range (eqb (e .kind) 1) (eqb (e .kind) 2) (eqb (e .kind) 3) s e h
 
   abbrev asked : Act
   asked = actAt (getD (b .ports) (placeOf (e .port) .index) noPort .setting)

@@ -2,42 +2,49 @@
 use Prim.Native.Nat.{ℕ}
 use mathlib.Core.Path.{ap, _∙_}
 use mathlib.Core.List.{List}
+use lib.ListN.{getD}
 use denote.Ref.{now}
+use Rattle.ranges.specs.Fields.{outside}
+use Rattle.spdu.specs.Signature.{byBits}
 use Rattle.spdu.proofs.Tables.{right-method}
+use Rattle.bench.specs.declared.Setting.{Setting}
 use Rattle.bench.specs.declared.Act.{Act}
-use Rattle.bench.specs.declared.PortAfter.{PortAfter}
-use Rattle.bench.specs.Calls.{requestAct, done, placed}
+use Rattle.bench.specs.Ports.{noPort}
+use Rattle.bench.specs.Calls.{requestAct, safeOutHold, acted}
+use Rattle.bench.proofs.Acted.{act-after, no-block, nowhere-request}
 use borrow.Author.Needs.{needs}
 use Rattle.bench.proofs.calls.receive_request.Statement.{statement}
 use Rattle.bench.proofs.calls.receive_request.Tie as tie
 
 returns : tie.Need-returns
+unfolding noPort
 returns c =
-    let at-place = c .before .before .before .before .before in
-    let at-hold = at-place .before in
+    let at-hold = c .before .before .before .before in
     let at-long = at-hold .before .before in
     let at-short = at-long .before in
-    let at-port = at-short .before in
-    let x = at-port .before .before .before .args in
-    let p = at-port .port-at .result in
-    c .placed .ensures
-    ∙ ap (λ (r : PortAfter). placed (x .b) (x .port) r) (c .before .done .ensures)
-    ∙ ap (λ (a : Act). placed (x .b) (x .port) (done p (x .at) a))
-    (c .before .before .request-act .ensures
+    let at-place = at-short .before .before in
+    let x = at-place .before .before .before .args in
+    let p = getD (x .t1 .ports) (at-place .place-of .result .index) noPort in
+    c .happened .ensures (x .at)
+    ∙ ap (λ (a : Act). acted (x .t1) (at-place .place-of .result .index) p (x .at) a)
+    (c .before .request-act .ensures
     ∙ ap (λ (sign : ℕ → List ℕ → ℕ). requestAct sign (at-place .place-of .result .outside) (p .setting) (x .at) (now (x .spdu)) (at-hold .safe-out-hold .result))
     (right-method (at-short .table16 .ensures) (at-long .table32 .ensures)))
-    ∙ simp (at-place .place-of .ensures .0, at-hold .safe-out-hold .ensures, at-port .port-at .ensures)
+    ∙ simp (at-place .place-of .ensures .0, at-hold .safe-out-hold .ensures)
+    (act-after (x .t1) (x .port) (x .at)
+    (λ (s : Setting). requestAct byBits (outside 1 8 (x .port)) s (x .at) (now (x .spdu)) (safeOutHold (s .params) (now (x .safe))))
+    (λ e s. nowhere-request byBits (outside 1 8 (x .port)) e s (x .at) (now (x .spdu)) (safeOutHold (s .params) (now (x .safe)))))
 
 pub receive-request-spec : {M : Type 1} → statement M
 receive-request-spec =
     tie.close
     (tie.spec
     (λ c κs. search needs)
+    (λ c. search needs)
+    (λ c. search needs)
     (λ c κs. search needs)
     (λ c κs. search needs)
     (λ c κs. search needs)
     (λ c κs. search needs)
-    (λ c κs. search needs)
-    (λ c κs. search needs)
-    (λ c κs. search needs)
+    (λ c κs. (c .before .before .before .before .before .before .before .before .place-of .ensures .1, rw (c .request-act .ensures) (no-block _ _)))
     returns)

@@ -1,7 +1,7 @@
--- `bench::at_port::refused` meets its contract. Assumes nothing.
+-- `bench::calls::refused` meets its contract. Assumes nothing.
 use borrow.Author.Needs.{needs}
-use Rattle.bench.proofs.at_port.refused.Statement.{statement}
-use Rattle.bench.proofs.at_port.refused.Tie as tie
+use Rattle.bench.proofs.calls.refused.Statement.{statement}
+use Rattle.bench.proofs.calls.refused.Tie as tie
 
 returns : tie.Need-returns
 returns c = simp (c .silent .ensures)
