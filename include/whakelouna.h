@@ -299,11 +299,13 @@ uint8_t whakelouna_build_response(struct whakelouna_bench bench, uint8_t port, c
 // The FS-Master's incoming image, of SPDUInLength + InputDataLength octets.
 struct whakelouna_split_told whakelouna_split(struct whakelouna_bench bench, uint8_t port, const uint8_t *octets, size_t length);
 
-// What a call handed on, by a mark of its reply, `master` with what was lent for the FS-Master and `device` with what was lent for the FS-Device: copied
-// to the front of `out`, which overlaps with nothing else that is passed. Of mark 0 the process octets of `spdu`, of 2 all of `safe`, of any other
-// nothing; `spdu` is looked at with mark 0 alone. Where `out` has fewer octets than that it writes nothing and answers 7. 25 octets have room for any
-// SPDU's process octets. It believes the mark: that a reply had it is not looked at.
-struct whakelouna_handed_told whakelouna_handed_on(struct whakelouna_bench bench, uint8_t port, uint8_t mark,
+// What a call handed on at one end, the FS-Device (`device`) or the FS-Master, copied to the front of `out`, which overlaps with nothing else that is
+// passed: by that end's mark in the call's reply, from the bench that the call returned, and the SPDU and the safe values that were lent to it. Of mark 0 it is
+// the process octets of `spdu`, of 1 nothing, as release goes on; but only where that end of the bench releases and, of 0, the SPDU holds and has the count
+// of the last one that the end took: else, and of 2, the safe values. Of any other number nothing. 8 and 9 come first; 10 where the mark is 0 and `spdu` has
+// another length than is configured; 7 for safe values of another length or not all zero, and for an `out` with too little room. 25 octets are always
+// enough. In a refusal it writes nothing. `spdu` is looked at with mark 0 alone.
+struct whakelouna_handed_told whakelouna_handed_on(struct whakelouna_bench bench, uint8_t port, bool device, uint8_t mark,
     const uint8_t *spdu, size_t spdu_length, const uint8_t *safe, size_t safe_length, uint8_t *out, size_t out_length);
 
 // What a port shows.

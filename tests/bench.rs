@@ -381,7 +381,7 @@ fn finish(mut pair: Pair) {
         println!("bench: answer {number} given {count} times");
         pair.comparisons.compare(true, count > 0, || format!("answer {number} was given"));
     }
-    for number in [0, 7, 8, 9] {
+    for number in [0, 7, 8, 9, 10] {
         let count = pair.copies[number];
         println!("bench: {number} answered {count} times to octets handed on");
         pair.comparisons.compare(true, count > 0, || format!("answer {number} to octets"));

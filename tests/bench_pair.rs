@@ -125,13 +125,15 @@ impl Pair {
         self.answers[usize::from(number)] += 1;
     }
 
-    /// `lent` are the SPDU and the safe values of the FS-Master, then those of the FS-Device.
+    /// `happened`: the call is no parameter block. `lent` are the SPDU and the safe values of the FS-Master, then those of the
+    /// FS-Device.
     fn follow(
         &mut self,
         call: &str,
         port: u8,
         expected: Reply,
         told: BenchTold,
+        happened: bool,
         lent: [[&[u8]; 2]; 2],
     ) -> Reply {
         self.count(expected.number);
@@ -143,27 +145,72 @@ impl Pair {
         self.compare_untouched(call, port, expected.number, &told.bench);
         self.bench = told.bench;
         for (end, mark) in [told.reply.master, told.reply.device].into_iter().enumerate() {
-            let handed_on = self.model.handed_on[end].clone();
-            self.handed_on(call, port, mark, lent[end], &handed_on);
+            if happened && expected.number == 0 {
+                let part = self.model.handed_on[end].clone();
+                self.compare_words(call, port, end, mark, lent[end], &part);
+            }
+            self.handed_on(call, port, end, mark, lent[end]);
         }
-        let no_mark = 4 + (self.calls % 252) as u8;
-        self.handed_on(call, port, no_mark, lent[0], &[]);
+        self.try_handing_on(call, port, lent);
         expected
     }
 
-    /// The part that a call with this mark handed on, copied to a buffer of its length, to longer ones and to a shorter one.
-    fn handed_on(&mut self, call: &str, port: u8, mark: u8, lent: [&[u8]; 2], part: &[u8]) {
-        let length = part.len();
+    /// What a call's own mark stands for is what 01 says of the call.
+    fn compare_words(
+        &mut self,
+        call: &str,
+        port: u8,
+        end: usize,
+        mark: u8,
+        lent: [&[u8]; 2],
+        part: &[u8],
+    ) {
+        let buffer = [0x5A; 40];
+        let expected = self.model.copied(port, part, &buffer);
+        let found = self.model.hand_on(port, end, mark, lent, &buffer);
+        self.compare(&format!("words of {call}"), port, expected, found);
+    }
+
+    /// What no call of the bench's own led to: another end, mark or port, an SPDU with a flipped bit or of another length, safe
+    /// values that are not zero or too few.
+    fn try_handing_on(&mut self, call: &str, port: u8, lent: [[&[u8]; 2]; 2]) {
+        let n = self.calls as usize;
+        let (end, mark) = (n % 2, [0, 0, 1, 2, 3, 255][n / 2 % 6]);
+        let port = if n % 11 == 0 { (n / 11 % 12) as u8 } else { port };
+        let from = if n % 7 == 0 { 1 - end } else { end };
+        let mut spdu = lent[from][0].to_vec();
+        let mut safe = lent[from][1].to_vec();
+        if n % 3 == 0 && !spdu.is_empty() {
+            let bit = n / 3 % (8 * spdu.len());
+            spdu[bit / 8] ^= 1 << (bit % 8);
+        }
+        if n % 13 == 0 {
+            spdu.pop();
+        }
+        if n % 5 == 0 && !safe.is_empty() {
+            let place = n / 5 % safe.len();
+            safe[place] = 0xFF;
+        }
+        if n % 17 == 0 {
+            safe.pop();
+        }
+        self.handed_on(call, port, end, mark, [&spdu, &safe]);
+    }
+
+    /// The part that a mark stands for, copied to a buffer of its length, to longer ones and to a shorter one.
+    fn handed_on(&mut self, call: &str, port: u8, end: usize, mark: u8, lent: [&[u8]; 2]) {
+        let (_, length, _) = self.model.hand_on(port, end, mark, lent, &[0; 40]);
         let room = [length, length + 3, length.saturating_sub(1), 40][self.calls as usize % 4];
         let mut octets: Vec<u8> = (0..room + 2 * GUARD).map(|place| (11 + 5 * place) as u8).collect();
         let inside = GUARD..GUARD + room;
-        let (number, count, later) = self.model.copied(port, part, &octets[inside.clone()]);
+        let (number, count, later) =
+            self.model.hand_on(port, end, mark, lent, &octets[inside.clone()]);
         let whole = [&octets[..GUARD], &later, &octets[inside.end..]].concat();
         let [spdu, safe] = lent;
-        let told =
-            library::handed_on(&self.bench, port, mark, spdu, safe, &mut octets[inside.clone()]);
+        let out = &mut octets[inside.clone()];
+        let told = library::handed_on(&self.bench, port, end == 1, mark, spdu, safe, out);
         self.copies[usize::from(number)] += 1;
-        let place = format!("handed_on after {call}, mark {mark}");
+        let place = format!("handed_on after {call}, end {end}, mark {mark}");
         self.compare(&place, port, (number, count, whole), (told.number, told.octets, octets));
     }
 
@@ -177,34 +224,34 @@ impl Pair {
     pub fn set_parameters(&mut self, port: u8, at: u32, octets: &[u8]) -> Reply {
         let expected = self.model.set_parameters(port, at, octets);
         let told = library::set_parameters(&self.bench, port, at, octets);
-        self.follow("set_parameters", port, expected, told, [[&[]; 2]; 2])
+        self.follow("set_parameters", port, expected, told, false, [[&[]; 2]; 2])
     }
 
     pub fn receive_response(&mut self, port: u8, at: u32, spdu: &[u8], safe: &[u8]) -> Reply {
         let expected = self.model.receive_response(port, at, spdu, safe);
         let told = library::receive_response(&self.bench, port, at, spdu, safe);
         let zeros = self.zeros(port, Direction::Request);
-        self.follow("receive_response", port, expected, told, [[spdu, safe], [&[], &zeros]])
+        self.follow("receive_response", port, expected, told, true, [[spdu, safe], [&[], &zeros]])
     }
 
     pub fn receive_request(&mut self, port: u8, at: u32, spdu: &[u8], safe: &[u8]) -> Reply {
         let expected = self.model.receive_request(port, at, spdu, safe);
         let told = library::receive_request(&self.bench, port, at, spdu, safe);
         let zeros = self.zeros(port, Direction::Response);
-        self.follow("receive_request", port, expected, told, [[&[], &zeros], [spdu, safe]])
+        self.follow("receive_request", port, expected, told, true, [[&[], &zeros], [spdu, safe]])
     }
 
     pub fn clock(&mut self, port: u8, at: u32, safe_in: &[u8], safe_out: &[u8]) -> Reply {
         let expected = self.model.clock(port, at, safe_in, safe_out);
         let told = library::clock(&self.bench, port, at, safe_in, safe_out);
-        self.follow("clock", port, expected, told, [[&[], safe_in], [&[], safe_out]])
+        self.follow("clock", port, expected, told, true, [[&[], safe_in], [&[], safe_out]])
     }
 
     pub fn operator(&mut self, port: u8, at: u32, signals: [bool; 2], safe: &[u8]) -> Reply {
         let expected = self.model.operator(port, at, signals, safe);
         let told = library::operator(&self.bench, port, at, signals, safe);
         let zeros = self.zeros(port, Direction::Request);
-        self.follow("operator", port, expected, told, [[&[], safe], [&[], &zeros]])
+        self.follow("operator", port, expected, told, true, [[&[], safe], [&[], &zeros]])
     }
 
     /// The whole buffer is compared. The part lent, where the call was taken.

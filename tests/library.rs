@@ -178,6 +178,7 @@ extern "C" {
     fn whakelouna_handed_on(
         bench: Bench,
         port: u8,
+        device: bool,
         mark: u8,
         spdu: *const u8,
         spdu_length: usize,
@@ -621,6 +622,7 @@ pub fn split(bench: &Bench, port: u8, octets: &[u8]) -> SplitTold {
 pub fn handed_on(
     bench: &Bench,
     port: u8,
+    device: bool,
     mark: u8,
     spdu: &[u8],
     safe: &[u8],
@@ -630,6 +632,7 @@ pub fn handed_on(
         whakelouna_handed_on(
             *bench,
             port,
+            device,
             mark,
             spdu.as_ptr(),
             spdu.len(),

@@ -21,6 +21,9 @@ const SPDU_LENGTH: u8 = 10;
 const BUFFER: u8 = 7;
 const NOTHING: u8 = 3;
 
+/// What the FS-Master receives, then what the FS-Device does.
+const DIRECTIONS: [Direction; 2] = [Direction::Response, Direction::Request];
+
 /// What a call with a reading says; marks and releases of the FS-Master, then of the FS-Device.
 #[derive(Clone, Copy, Debug, PartialEq)]
 pub struct Reply {
@@ -58,6 +61,8 @@ pub struct Running {
     device: DeviceModel,
     /// The reading of the call in which MCount last took another value, or of the block.
     sent_at: u32,
+    /// The count of the last SPDU that each end took.
+    last_counts: [u8; 2],
     samples: Samples,
 }
 
@@ -68,6 +73,7 @@ impl Running {
             master: MasterModel::after_block(at),
             device: DeviceModel::after_block(),
             sent_at: at,
+            last_counts: [0; 2],
             samples: Samples::new(parameters[W] as u16, Earlier::NOTHING),
         }
     }
@@ -123,6 +129,9 @@ impl Running {
         let received = read(&self.format(Direction::Response), spdu);
         let since = self.sent_at;
         let said = self.at_master(at, |master, w| master.response(w, at, &received));
+        if said.arrival != 0 {
+            self.last_counts[0] = received.count;
+        }
         let time = elapsed(at, since);
         if said.passed && !said.old && time <= self.w().into() {
             self.samples.list.push(time as u16);
@@ -132,7 +141,28 @@ impl Running {
 
     fn take_request(&mut self, at: u32, spdu: &[u8]) -> Said {
         let received = read(&self.format(Direction::Request), spdu);
-        self.device.request(self.w(), at, &received)
+        let said = self.device.request(self.w(), at, &received);
+        if said.arrival != 0 {
+            self.last_counts[1] = received.count;
+        }
+        said
+    }
+
+    /// An SPDU that holds, with the count of the last one that the end took.
+    fn is_last(&self, end: usize, spdu: &[u8]) -> bool {
+        let received = read(&self.format(DIRECTIONS[end]), spdu);
+        received.signature && received.port && received.count == self.last_counts[end]
+    }
+
+    /// What goes out by a mark that is only told.
+    fn part(&self, end: usize, mark: u8, spdu: &[u8]) -> Vec<u8> {
+        let format = self.format(DIRECTIONS[end]);
+        match (mark, self.releases()[end]) {
+            (0, true) if self.is_last(end, spdu) => format.process(spdu).to_vec(),
+            (1, true) => vec![],
+            (0..=2, _) => vec![0; self.process_octets(DIRECTIONS[end])],
+            _ => vec![],
+        }
     }
 
     fn releases(&self) -> [bool; 2] {
@@ -142,12 +172,11 @@ impl Running {
     /// What a call hands on for each end: zeros where it does not release; the octets of the SPDU that led to T4, T11 or T22;
     /// else nothing, as earlier octets stay released.
     fn handed_on(&self, rows: [u8; 2], spdu: &[u8]) -> [Vec<u8>; 2] {
-        let directions = [Direction::Response, Direction::Request];
         std::array::from_fn(|end| {
             let releases = self.releases()[end];
             match rows[end] {
-                _ if !releases => vec![0; self.process_octets(directions[end])],
-                4 | 11 | 22 => self.format(directions[end]).process(spdu).to_vec(),
+                _ if !releases => vec![0; self.process_octets(DIRECTIONS[end])],
+                4 | 11 | 22 => self.format(DIRECTIONS[end]).process(spdu).to_vec(),
                 _ => vec![],
             }
         })
@@ -377,6 +406,30 @@ impl BenchModel {
         let count = if copied.is_ok() { octets.len() } else { 0 };
         let (number, buffer) = built(copied, buffer);
         (number, count, buffer)
+    }
+
+    /// The same by a mark that is only told, of an SPDU and safe values.
+    pub fn hand_on(
+        &self,
+        port: u8,
+        end: usize,
+        mark: u8,
+        lent: [&[u8]; 2],
+        buffer: &[u8],
+    ) -> (u8, usize, Vec<u8>) {
+        let [spdu, safe] = lent;
+        let part = self.addressed(port).and_then(|running| {
+            let length = running.format(DIRECTIONS[end]).length;
+            refused_by(&[
+                (SPDU_LENGTH, mark == 0 && spdu.len() != usize::from(length)),
+                (BUFFER, !running.safe_values_hold(DIRECTIONS[end], safe)),
+            ])?;
+            Ok(running.part(end, mark, spdu))
+        });
+        match part {
+            Ok(part) => self.copied(port, &part, buffer),
+            Err(number) => (number, 0, buffer.to_vec()),
+        }
     }
 
     pub fn trend(&self, port: u8) -> (u8, Point) {

@@ -2,14 +2,13 @@
 use Prim.Native.Nat.{ℕ, _-_, _<_}
 use mathlib.Core.Path.{_≡_, refl, sym, ap, _∙_}
 use mathlib.Core.Bool.{Bool, true, false, cond}
-use mathlib.Core.List.{List, [], _∷_}
+use mathlib.Core.List.{List, []}
 use lib.ListN.{getD, set, drop, replicate, length-set}
 use lib.Seq.{set-getD}
 use Rattle.answer.specs.declared.Answer.{Answer}
 use Rattle.answer.specs.declared.Answer.the-variants as answers
 use Rattle.answer.specs.Answers.{isTaken}
 use Rattle.answer.specs.Rules as answering
-use Rattle.answer.specs.Rules.{Rule, rule, answerBy}
 use Rattle.answer.proofs.Exact.{onward, stands}
 use Rattle.ranges.specs.Fields.{outside}
 use Rattle.block.specs.declared.Params.{Params}

@@ -4,7 +4,6 @@ use mathlib.Core.Path.{_≡_, refl, ap}
 use mathlib.Core.Logic.{_↔_}
 use mathlib.Core.Bool.{Bool, true, false, cond}
 use mathlib.Core.List.{List, [], _∷_, _++_}
-use lib.Dec.{leb}
 use lib.ListN.{length}
 use Rattle.answer.specs.declared.Answer.{Answer}
 use Rattle.answer.specs.declared.Answer.the-variants.{Taken}
@@ -19,11 +18,13 @@ use Rattle.spdu.specs.Image as image
 use Rattle.scl.specs.declared.Happening.{Happening}
 use Rattle.scl.proofs.Cases.{no}
 use Rattle.bench.specs.declared.Port.{Port}
+use Rattle.bench.specs.declared.End.{End}
 use Rattle.bench.specs.declared.Bench.{Bench}
 use Rattle.bench.specs.declared.Act.the-variants.{Refused, Accepted, Happens}
 use Rattle.bench.specs.Ports.{portAt, stepOf, stored, said, silent}
 use Rattle.bench.specs.Calls.{callRules, asked, askedByBlock, done, placed, responseAt, requestAt, clockAt, operatorAt, parametersAt}
-use Rattle.bench.specs.Images.{composeAnswer, composed, buildAnswer, responseOut, splitAnswer, handedOn, handedTo, handedOut}
+use Rattle.bench.specs.Images.{composeAnswer, composed, buildAnswer, responseOut, splitAnswer}
+use Rattle.bench.specs.Handing.{handedTo, handedOut}
 use Rattle.bench.specs.Shown.{trendOf, binsOf, masterOf, deviceOf}
 use Rattle.bench.specs.History.{NoReading, Compose, BuildResponse, Split, HandOn, Trend, Bins, ShowMaster, ShowDevice, Call, SetParameters, ReceiveResponse, ReceiveRequest, Clock, Operator, WithoutReading, portOf, rulesWithoutReading, rulesOf, answerWithoutReading, answerOf, after, history}
 use Rattle.bench.proofs.Taken.{taken-is, on-buffers}
@@ -55,8 +56,7 @@ answer-without-reading port p (BuildResponse process out) =
     on-buffers (answerBy Taken (callRules port (p .setting))) (buffersHold (p .setting .params .«FSP_ProtMode») (p .setting .params .SPDUInLength) (length process) (length out))
 answer-without-reading port p (Split octets) =
     on-buffers (answerBy Taken (callRules port (p .setting))) (image.splitterHolds (p .setting .params) (length octets))
-answer-without-reading port p (HandOn mark spdu safe out) =
-    on-buffers (answerBy Taken (callRules port (p .setting))) (leb (length (handedOn p mark spdu safe)) (length out))
+answer-without-reading port p (HandOn end mark spdu safe out) = refl
 answer-without-reading port p Trend = refl
 answer-without-reading port p Bins = refl
 answer-without-reading port p ShowMaster = refl
@@ -83,7 +83,7 @@ unfolding rulesWithoutReading
 exactly-without-reading port p (Compose process other octets) = (taken-exactly _ tt tt, given-exactly _ tt tt)
 exactly-without-reading port p (BuildResponse process out) = (taken-exactly _ tt tt, given-exactly _ tt tt)
 exactly-without-reading port p (Split octets) = (taken-exactly _ tt tt, given-exactly _ tt tt)
-exactly-without-reading port p (HandOn mark spdu safe out) = (taken-exactly _ tt tt, given-exactly _ tt tt)
+exactly-without-reading port p (HandOn end mark spdu safe out) = (taken-exactly _ tt tt, given-exactly _ tt tt)
 exactly-without-reading port p Trend = (taken-exactly _ tt tt, given-exactly _ tt tt)
 exactly-without-reading port p Bins = (taken-exactly _ tt tt, given-exactly _ tt tt)
 exactly-without-reading port p ShowMaster = (taken-exactly _ tt tt, given-exactly _ tt tt)
@@ -137,7 +137,6 @@ unfolding buildAnswer responseOut
 build-refused port p process out e =
     unwritten (answerBy Taken (callRules port (p .setting))) (buffersHold (p .setting .params .«FSP_ProtMode») (p .setting .params .SPDUInLength) (length process) (length out)) _ out e
 
-pub handed-refused : (port : ℕ) (p : Port) (mark : Mark) (spdu safe out : List ℕ) → isTaken (handedTo port p mark spdu safe (length out) .answer) ≡ false → handedOut port p mark spdu safe out ≡ out
+pub handed-refused : (port : ℕ) (p : Port) (e : End) (mark : Mark) (spdu safe out : List ℕ) → isTaken (handedTo port p e mark spdu safe (length out) .answer) ≡ false → handedOut port p e mark spdu safe out ≡ out
 unfolding handedTo handedOut
-handed-refused port p mark spdu safe out e =
-    unwritten (answerBy Taken (callRules port (p .setting))) (leb (length (handedOn p mark spdu safe)) (length out)) _ out e
+handed-refused port p e mark spdu safe out t = simp t

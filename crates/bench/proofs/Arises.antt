@@ -7,7 +7,7 @@ use mathlib.Core.Bool.{true, false, cond}
 use mathlib.Core.List.{List, [], _∷_, _++_}
 use lib.Dec.{eqb, leb}
 use lib.ListN.{length, take, getD}
-use Rattle.answer.specs.declared.Answer.the-variants.{Taken, NoPort, NoSamples}
+use Rattle.answer.specs.declared.Answer.the-variants.{Taken, Buffer, NoPort, SpduLength, NoSamples}
 use Rattle.answer.specs.Answers.{isTaken}
 use Rattle.block.specs.Table22.{paramsOf}
 use Rattle.block.proofs.Arises.{good, octets-of}
@@ -40,7 +40,9 @@ use Rattle.bench.specs.declared.Port.{Port}
 use Rattle.bench.specs.Ports.{newPort, acceptedPort, newBench, noPort, portAt, withPort, turnOf, stored, said, stepOf, silent}
 use Rattle.bench.specs.Regular.{isRegular, regularOf}
 use Rattle.bench.specs.Calls as calls
-use Rattle.bench.specs.Images.{composeAnswer, composed, buildAnswer, responseOut, handedTo, handedOut}
+use Rattle.bench.specs.Images.{composeAnswer, composed, buildAnswer, responseOut}
+use Rattle.bench.specs.declared.End.the-variants as end
+use Rattle.bench.specs.Handing.{handedTo, handedOut}
 use Rattle.bench.specs.Shown.{trendOf, binsOf}
 use Rattle.bench.specs.History.{Call, SetParameters, ReceiveResponse, ReceiveRequest, Clock, portOf, answerOf, after, history, addressing, goesOn, extended, since, sinceBlock, StandsSince, Stands, Arising, blockIn, OctetsIn, no-call, one-more}
 use Rattle.bench.proofs.Answers.{refused-same, left-out, compose-refused, build-refused, handed-refused}
@@ -50,6 +52,7 @@ use Rattle.bench.proofs.History.{stands}
 use Rattle.bench.proofs.Release.{passed-first, acknowledged, signals-hold, cycles-first, after-error}
 use Rattle.bench.proofs.Showing.{frozen-shown, trend-answer, trend-shown}
 use Rattle.bench.proofs.HandedOn as handing
+use Rattle.bench.proofs.HandedAfter as handingAfter
 use Rattle.bench.proofs.Never.{arising}
 
 -- an SPDU to and from port 1, with this control or status octet and signature
@@ -208,9 +211,9 @@ pub build-refused-met : responseOut 2 newPort [] (7 ∷ []) ≡ 7 ∷ []
 unfolding buildAnswer newPort
 build-refused-met = build-refused 2 newPort [] (7 ∷ []) refl
 
-pub handed-refused-met : handedOut 2 newPort Fresh response safe (7 ∷ []) ≡ 7 ∷ []
+pub handed-refused-met : handedOut 2 newPort end.Master Fresh response safe (7 ∷ []) ≡ 7 ∷ []
 unfolding handedTo newPort
-handed-refused-met = handed-refused 2 newPort Fresh response safe (7 ∷ []) refl
+handed-refused-met = handed-refused 2 newPort end.Master Fresh response safe (7 ∷ []) refl
 
 -- ---- what is handed on: process octets by the response and the last request, safe values before
 
@@ -244,6 +247,36 @@ handed-met = record {
   refused-hands-on = handing.refused-hands-on begun 1005 NoPort (happening.Clock 1005) refl;
   master-fresh-only = handing.master-fresh-only begun (happening.Response 1010 read) refl;
   device-fresh-only = handing.device-fresh-only before (happening.Request 1070 readRequest) refl;
+}
+
+-- copied out: by the mark of the call that brought it, and by nothing else that may be told
+pub record Copied : Type 0 where
+  by-response : handingAfter.Hands 1 (calls.responseAt 1 begun 1010 response safe .port) end.Master (calls.responseAt 1 begun 1010 response safe .reply .master) response safe (7 ∷ 7 ∷ []) (0x2A ∷ [])
+  by-request : handingAfter.Hands 1 port end.Device Fresh request safe (7 ∷ 7 ∷ []) (0x2A ∷ [])
+  clock-in : handingAfter.Hands 1 (calls.clockAt 1 begun 1005 safe safe .port) end.Master (calls.clockAt 1 begun 1005 safe safe .reply .master) [] safe (7 ∷ []) safe
+  clock-out : handingAfter.Hands 1 (calls.clockAt 1 begun 1005 safe safe .port) end.Device (calls.clockAt 1 begun 1005 safe safe .reply .device) [] safe (7 ∷ []) safe
+  operator : handingAfter.Hands 1 (calls.operatorAt 1 begun 1005 true false safe .port) end.Master (calls.operatorAt 1 begun 1005 true false safe .reply .master) [] safe (7 ∷ []) safe
+  not-released : handedOut 1 before end.Device Fresh request safe (7 ∷ []) ≡ 0 ∷ []
+  damaged : handedOut 1 port end.Device Fresh (spdu 0x20 0x5C 0x3B) safe (7 ∷ []) ≡ 0 ∷ []
+  other-length : handedTo 1 port end.Device Fresh [] safe 1 .answer ≡ SpduLength
+  not-zero : handedTo 1 port end.Device Fresh request (0xFF ∷ []) 1 .answer ≡ Buffer
+  no-room : handedTo 1 port end.Device Fresh request safe 0 .answer ≡ Buffer
+  no-port : handedTo 9 port end.Device Fresh request safe 1 .answer ≡ NoPort
+
+pub copied-met : Copied
+unfolding portOf answerOf after history calls.placed calls.asked calls.askedByBlock calls.done portAt withPort newBench newPort noPort acceptedPort turnOf stored said stepOf talliedBy silent signing.signature signing.octet signing.shiftInAll signing.shiftIn elapsedOf table38.watchdogRow table38.isOld table38.isTaken table38.checked table38.from8 table38.arrivalRow table38.taken table38.sampleFrom table38.t4 table38.acted masters.judged masters.quiet masters.arrived masters.received masters.watched masters.operated table38.signalled masters.stepOf table40.watchdogRow table40.isTaken table40.checked table40.arrivalRow table40.taken table40.t22 table40.t25 table40.t28 table40.t29 table40.acted devices.judged devices.quiet devices.arrived devices.received devices.watched devices.stepOf counted.frozenOf counted.withSample counted.countedOf counted.totalledOf handedTo handedOut
+copied-met = record {
+  by-response = handingAfter.response-handed 1 begun 1010 response safe (7 ∷ 7 ∷ []) refl (omega arith);
+  by-request = record { told = refl; written = refl };
+  clock-in = handingAfter.clock-handed-in 1 begun 1005 safe safe (7 ∷ []) refl (omega arith);
+  clock-out = handingAfter.clock-handed-out 1 begun 1005 safe safe (7 ∷ []) refl (omega arith);
+  operator = handingAfter.operator-handed 1 begun 1005 true false safe (7 ∷ []) refl (omega arith);
+  not-released = refl;
+  damaged = refl;
+  other-length = refl;
+  not-zero = refl;
+  no-room = refl;
+  no-port = refl;
 }
 
 pub master-fresh-if-met : stepOf begun (happening.Response 1010 read) .reply .master ≡ Fresh

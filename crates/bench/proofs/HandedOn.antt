@@ -50,7 +50,7 @@ received-mark m r at f = go (table38.isTaken m f)
     go true = refl
     go false = refl
 
-response-mark : (m : Master) (w at : ℕ) (f : Response) → masters.stepOf m w (happening.Response at f) .mark ≡ markOf (table38.isTaken (masters.judged m w at) f) (masters.stepOf m w (happening.Response at f) .master .released)
+pub response-mark : (m : Master) (w at : ℕ) (f : Response) → masters.stepOf m w (happening.Response at f) .mark ≡ markOf (table38.isTaken (masters.judged m w at) f) (masters.stepOf m w (happening.Response at f) .master .released)
 unfolding masters.stepOf
 response-mark m w at f = received-mark (masters.judged m w at) (table38.watchdogRow m w at) at f
 
@@ -62,7 +62,7 @@ requested-mark d r at q = go (table40.isTaken d q)
     go true = refl
     go false = refl
 
-request-mark : (d : Device) (w at : ℕ) (q : Request) → devices.stepOf d w (happening.Request at q) .mark ≡ markOf (table40.isTaken (devices.judged d w at) q) (devices.stepOf d w (happening.Request at q) .device .released)
+pub request-mark : (d : Device) (w at : ℕ) (q : Request) → devices.stepOf d w (happening.Request at q) .mark ≡ markOf (table40.isTaken (devices.judged d w at) q) (devices.stepOf d w (happening.Request at q) .device .released)
 unfolding devices.stepOf
 request-mark d w at q = requested-mark (devices.judged d w at) (table40.watchdogRow d w at) at q
 
@@ -90,7 +90,7 @@ hands {mark} row releases mode n spdu safe e s =
 
 -- ---- each call that is not refused
 
-asked-taken : (p : Port) (at : ℕ) (a : Answer) (h : Happening) → isTaken a ≡ true → done p at (asked a h) ≡ stepOf p h
+pub asked-taken : (p : Port) (at : ℕ) (a : Answer) (h : Happening) → isTaken a ≡ true → done p at (asked a h) ≡ stepOf p h
 unfolding done asked
 asked-taken p at a h t = simp t
 
@@ -126,7 +126,7 @@ module _ (port : ℕ) (p : Port) (at : ℕ) where
 
   -- a clock reading, for both ends
   module _ (safeIn safeOut : List ℕ) (t : isTaken (answerBy Taken (clockRules port (p .setting) safeIn safeOut)) ≡ true) where
-    both-hold : (safeInHold (p .setting .params) safeIn && safeOutHold (p .setting .params) safeOut) ≡ true
+    pub both-hold : (safeInHold (p .setting .params) safeIn && safeOutHold (p .setting .params) safeOut) ≡ true
     both-hold =
         let kept : Kept (clockRules port (p .setting) safeIn safeOut) = taken-exactly (clockRules port (p .setting) safeIn safeOut) tt tt .0 t in
         not-false (safeInHold (p .setting .params) safeIn && safeOutHold (p .setting .params) safeOut) (kept .each 2)

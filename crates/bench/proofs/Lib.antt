@@ -12,5 +12,6 @@ pub mod History
 pub mod Release
 pub mod Never
 pub mod HandedOn
+pub mod HandedAfter
 pub mod Showing
 pub mod Arises

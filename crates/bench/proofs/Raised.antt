@@ -8,7 +8,7 @@ use Rattle.scl.specs.declared.Happening.{Happening}
 use Rattle.scl.proofs.Cases.{cond-case, no, and-right}
 use Rattle.histogram.specs.declared.Totals.{Totals}
 use Rattle.histogram.specs.declared.Sampled.{Sampled}
-use Rattle.histogram.specs.Samples.{binCount, binOf}
+use Rattle.histogram.specs.Samples.{binCount}
 use Rattle.histogram.proofs.Samples.{bin-below}
 use Rattle.samples.specs.Tallied.{movedOf, talliedBy}
 use Rattle.bench.specs.declared.Setting.{Setting}

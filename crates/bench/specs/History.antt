@@ -4,7 +4,7 @@ use Prim.Native.Nat.{ℕ, _+_, _≤_, _<_}
 use mathlib.Core.Path.{_≡_}
 use mathlib.Core.Bool.{Bool, true, cond, not, _&&_}
 use mathlib.Core.List.{List, [], _∷_, _++_}
-use lib.Dec.{eqb, leb}
+use lib.Dec.{eqb}
 use lib.ListN.{length, getD, replicate}
 use Rattle.answer.specs.declared.Answer.{Answer}
 use Rattle.answer.specs.declared.Answer.the-variants.{Buffer}
@@ -33,10 +33,12 @@ use Rattle.fs_device.specs.History as deviceSpecs
 use Rattle.histogram.specs.Samples.{binCount, Within, Holds, Fits}
 use Rattle.samples.specs.Samples.{samples, histogramAfter}
 use Rattle.bench.specs.declared.Port.{Port}
+use Rattle.bench.specs.declared.End.{End}
 use Rattle.bench.specs.declared.Bench.{Bench}
 use Rattle.bench.specs.Ports.{newPort, newBench, portAt, histogramOf}
 use Rattle.bench.specs.Calls as calls
-use Rattle.bench.specs.Images.{composeAnswer, buildAnswer, splitAnswer, handedOn, handedTo}
+use Rattle.bench.specs.Images.{composeAnswer, buildAnswer, splitAnswer}
+use Rattle.bench.specs.Handing.{handRules, handedTo}
 use Rattle.bench.specs.Shown.{trendRules, trendOf, binsOf, masterOf, deviceOf}
 
 -- ---- Calls
@@ -46,7 +48,7 @@ pub data NoReading : Type 0 where
   Compose : (process other octets : List ℕ) → NoReading
   BuildResponse : (process out : List ℕ) → NoReading
   Split : (octets : List ℕ) → NoReading
-  HandOn : (mark : Mark) (spdu safe out : List ℕ) → NoReading
+  HandOn : (end : End) (mark : Mark) (spdu safe out : List ℕ) → NoReading
   Trend : NoReading
   Bins : NoReading
   ShowMaster : NoReading
@@ -81,7 +83,7 @@ rulesWithoutReading port p (Compose process other octets) = bufferRules port p (
 rulesWithoutReading port p (BuildResponse process out) =
     bufferRules port p (buffersHold (p .setting .params .«FSP_ProtMode») (p .setting .params .SPDUInLength) (length process) (length out))
 rulesWithoutReading port p (Split octets) = bufferRules port p (image.splitterHolds (p .setting .params) (length octets))
-rulesWithoutReading port p (HandOn mark spdu safe out) = bufferRules port p (leb (length (handedOn p mark spdu safe)) (length out))
+rulesWithoutReading port p (HandOn end mark spdu safe out) = handRules port p end mark spdu safe (length out)
 rulesWithoutReading port p Trend = trendRules port p
 rulesWithoutReading port p Bins = calls.callRules port (p .setting)
 rulesWithoutReading port p ShowMaster = calls.callRules port (p .setting)
@@ -100,7 +102,7 @@ unfoldable pub answerWithoutReading : ℕ → Port → NoReading → Answer
 answerWithoutReading port p (Compose process other octets) = composeAnswer port p process other octets
 answerWithoutReading port p (BuildResponse process out) = buildAnswer port p process out
 answerWithoutReading port p (Split octets) = splitAnswer port p octets
-answerWithoutReading port p (HandOn mark spdu safe out) = handedTo port p mark spdu safe (length out) .answer
+answerWithoutReading port p (HandOn end mark spdu safe out) = handedTo port p end mark spdu safe (length out) .answer
 answerWithoutReading port p Trend = trendOf port p .answer
 answerWithoutReading port p Bins = binsOf port p .answer
 answerWithoutReading port p ShowMaster = masterOf port p .answer

@@ -1,19 +1,16 @@
 -- The calls on outgoing and incoming octets. They have no reading, judge no watchdog and change no state (R11). Assumes nothing.
 use Prim.Native.Nat.{ℕ}
 use mathlib.Core.Bool.{Bool, cond}
-use mathlib.Core.List.{List, [], _++_}
-use lib.Dec.{leb}
-use lib.ListN.{length, drop}
+use mathlib.Core.List.{List, []}
+use lib.ListN.{length}
 use Rattle.answer.specs.declared.Answer.{Answer}
 use Rattle.answer.specs.declared.Answer.the-variants.{Taken}
 use Rattle.answer.specs.Answers.{isTaken}
 use Rattle.answer.specs.Rules.{answerBy}
-use Rattle.scl.specs.declared.Mark.{Mark}
 use Rattle.spdu.specs.Signature.{byBits}
 use Rattle.spdu.specs.Built.{builtAs, buffersHold, responseBuilt}
 use Rattle.spdu.specs.Image as image
 use Rattle.bench.specs.declared.Port.{Port}
-use Rattle.bench.specs.declared.Handed.{Handed}
 use Rattle.bench.specs.Calls.{callRules}
 
 -- 8 and 9 (R27); where both are kept, the answer on the buffers: 7 for a wrong length, else TAKEN
@@ -52,21 +49,3 @@ spduPart port p octets = unlessRefused port p (image.spduPart (p .setting .param
 
 unfoldable pub otherPart : ℕ → Port → List ℕ → List ℕ
 otherPart port p octets = unlessRefused port p (image.otherPart (p .setting .params) octets) []
-
--- what a call with this mark handed on of its SPDU and its safe values (R26)
-abbrev pub handedOn : Port → Mark → List ℕ → List ℕ → List ℕ
-handedOn p mark spdu safe = image.handedOn mark (p .setting .params .«FSP_ProtMode») spdu safe
-
--- the same, copied to the front of a buffer that has room for it, as a caller in C has it (docs/DECISIONS.md): 8, 9, and 7 where there is no room (R27);
--- with how many octets are handed on
-unfoldable pub handedTo : ℕ → Port → Mark → List ℕ → List ℕ → ℕ → Handed
-handedTo port p mark spdu safe room =
-    let n = length (handedOn p mark spdu safe) in
-    let a = onBuffers port p (leb n room) in
-    record { answer = a; octets = cond (isTaken a) n 0 }
-
--- what stands in the buffer later
-unfoldable pub handedOut : ℕ → Port → Mark → List ℕ → List ℕ → List ℕ → List ℕ
-handedOut port p mark spdu safe out =
-    let part = handedOn p mark spdu safe in
-    unlessRefused port p (cond (leb (length part) (length out)) (part ++ drop (length part) out) out) out

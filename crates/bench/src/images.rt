@@ -1,14 +1,11 @@
 // The calls on outgoing and incoming octets.
 ghost use mathlib.Core.Path.{_≡_};
-ghost use lib.ListN.{length};
 ghost use Rattle.bench.specs.Ports.{portAt};
 ghost use Rattle.bench.specs.Images as images;
 use crate::Bench;
-use crate::Handed;
 use crate::acts::port_answer;
 use crate::calls::port_at;
 use answer::Answer;
-use scl::Mark;
 
 // The FS-Master's outgoing image: process octets (zeros where setSD is 1) in an SPDU, other data behind it.
 pub fn compose(b: Bench, port: u8, process: &[u8], other: &[u8], octets: &mut [u8]) -> Answer
@@ -89,49 +86,5 @@ pub fn other_part(b: Bench, port: u8, octets: &[u8]) -> &[u8]
         spdu::other_part(p.setting.params, octets)
     } else {
         &octets[..0]
-    }
-}
-
-// What a call with this mark handed on, of the SPDU and the safe values lent to it.
-pub fn handed_on<'a>(b: Bench, port: u8, mark: Mark, spdu: &'a [u8], safe: &'a [u8]) -> &'a [u8]
-    ensures { λ r. ⌜ now r ≡ images.handedOn (portAt b port) mark (now (spdu .entry)) (now (safe .entry)) ⌝ }
-{
-    let p = port_at(b, port);
-    spdu::handed_on(mark, p.setting.params.FSP_ProtMode, spdu, safe)
-}
-
-// The same, copied to the front of out; 7 where out has no room for it.
-pub fn hand_on<'a>(
-    b: Bench,
-    port: u8,
-    mark: Mark,
-    spdu: &'a [u8],
-    safe: &'a [u8],
-    out: &mut [u8],
-) -> Handed
-    ensures { λ r. ⌜ r ≡ images.handedTo port (portAt b port) mark (now (spdu .entry)) (now (safe .entry)) (length (now (out .entry))) ⌝ }
-    ensures { λ _. ⌜ now (out .exit) ≡ images.handedOut port (portAt b port) mark (now (spdu .entry)) (now (safe .entry)) (now (out .entry)) ⌝ }
-{
-    let p = port_at(b, port);
-    let a = port_answer(port, p.setting);
-    if answer::is_taken(a) {
-        let part = handed_on(b, port, mark, spdu, safe);
-        if part.len() <= out.len() {
-            let n = bytes::copy(part, out);
-            Handed {
-                answer: Answer::Taken,
-                octets: n,
-            }
-        } else {
-            Handed {
-                answer: Answer::Buffer,
-                octets: 0,
-            }
-        }
-    } else {
-        Handed {
-            answer: a,
-            octets: 0,
-        }
     }
 }

@@ -8,6 +8,7 @@ mod at_port;
 mod by_t4;
 mod calls;
 mod columns;
+mod handing;
 mod images;
 mod shown;
 mod turns;
@@ -33,12 +34,12 @@ pub use columns::packed;
 pub use columns::settings_of;
 use fs_device::Device;
 use fs_master::Master;
+pub use handing::hand_on;
+pub use handing::handed_on;
 pub use histogram::BIN_COUNT;
 use histogram::Totals;
 pub use images::build_response;
 pub use images::compose;
-pub use images::hand_on;
-pub use images::handed_on;
 pub use images::other_part;
 pub use images::spdu_part;
 pub use images::split;
@@ -122,6 +123,12 @@ pub struct Reply {
 pub struct BenchAfter {
     pub bench: Bench,
     pub reply: Reply,
+}
+
+// An end of a port.
+pub enum End {
+    Master,
+    Device,
 }
 
 // How many octets were copied of what a call handed on.

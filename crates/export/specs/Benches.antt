@@ -1,6 +1,6 @@
 -- The bench's results in numbers, for other languages. Assumes nothing.
 use Prim.Native.Nat.{ℕ}
-use mathlib.Core.Bool.{cond}
+use mathlib.Core.Bool.{Bool, cond}
 use mathlib.Core.List.{List}
 use lib.Dec.{eqb}
 use lib.ListN.{length}
@@ -12,6 +12,8 @@ use Rattle.histogram.specs.declared.Trend.{Trend}
 use Rattle.bench.specs.declared.Port.{Port}
 use Rattle.bench.specs.declared.Reply.{Reply}
 use Rattle.bench.specs.declared.BenchAfter.{BenchAfter}
+use Rattle.bench.specs.declared.End.{End}
+use Rattle.bench.specs.declared.End.the-variants as end
 use Rattle.bench.specs.declared.Handed.{Handed}
 use Rattle.bench.specs.declared.Bins.{Bins}
 use Rattle.bench.specs.declared.MasterShown.{MasterShown}
@@ -49,6 +51,9 @@ splitTold port p octets = record {
 -- the mark that a number stands for (`markNumberOf`); a number that stands for none hands on nothing
 unfoldable pub markNumbered : ℕ → Mark
 markNumbered n = cond (eqb n 0) Fresh (cond (eqb n 1) GoesOn (cond (eqb n 2) Safe Nothing))
+
+abbrev pub endOf : Bool → End
+endOf device = cond device end.Device end.Master
 
 abbrev pub handedTold : Handed → HandedTold
 handedTold h = record { number = numberOf (h .answer); octets = h .octets }

@@ -6,12 +6,14 @@ ghost use Rattle.answer.specs.Answers.{numberOf};
 ghost use Rattle.bench.specs.Ports.{newBench, portAt};
 ghost use Rattle.bench.specs.Calls as calls;
 ghost use Rattle.bench.specs.Images as images;
+ghost use Rattle.bench.specs.Handing as handing;
 ghost use Rattle.bench.specs.Shown as shown;
 ghost use Rattle.export.specs.Benches as told;
 use crate::histograms::NumberedTrend;
 use bench::BIN_COUNT;
 use bench::Bench;
 use bench::BenchAfter;
+use bench::End;
 use fs_device::Device;
 use fs_master::Master;
 use scl::Mark;
@@ -217,20 +219,35 @@ fn mark_numbered(number: u8) -> Mark
     Mark::Nothing
 }
 
+fn end_of(device: bool) -> End
+    ensures { λ r. ⌜ r ≡ told.endOf device ⌝ }
+{
+    if device { End::Device } else { End::Master }
+}
+
 // Copies what a call with this mark handed on to the front of out.
 #[no_mangle]
 pub extern "C" fn whakelouna_handed_on<'a>(
     bench: Bench,
     port: u8,
+    device: bool,
     mark: u8,
     spdu: &'a [u8],
     safe: &'a [u8],
     out: &mut [u8],
 ) -> HandedTold
-    ensures { λ r. ⌜ r ≡ told.handedTold (images.handedTo port (portAt bench port) (told.markNumbered mark) (now (spdu .entry)) (now (safe .entry)) (length (now (out .entry)))) ⌝ }
-    ensures { λ _. ⌜ now (out .exit) ≡ images.handedOut port (portAt bench port) (told.markNumbered mark) (now (spdu .entry)) (now (safe .entry)) (now (out .entry)) ⌝ }
+    ensures { λ r. ⌜ r ≡ told.handedTold (handing.handedTo port (portAt bench port) (told.endOf device) (told.markNumbered mark) (now (spdu .entry)) (now (safe .entry)) (length (now (out .entry)))) ⌝ }
+    ensures { λ _. ⌜ now (out .exit) ≡ handing.handedOut port (portAt bench port) (told.endOf device) (told.markNumbered mark) (now (spdu .entry)) (now (safe .entry)) (now (out .entry)) ⌝ }
 {
-    let handed = bench::hand_on(bench, port, mark_numbered(mark), spdu, safe, out);
+    let handed = bench::hand_on(
+        bench,
+        port,
+        end_of(device),
+        mark_numbered(mark),
+        spdu,
+        safe,
+        out,
+    );
     let answer = handed.answer;
     HandedTold {
         number: answer::number(answer),

@@ -86,7 +86,7 @@ received-count d r at n q e =
     (row-case d at q (λ _ _ j. j .MCount ≡ q .MCount) (isFailure (checked d q)) (λ _. refl) refl (λ _. refl) (λ _. refl))
     e
 
-step-count : (d : Device) (w n : ℕ) (h : Happening) → d .MCount ≡ n → stepOf d w h .device .MCount ≡ takenBy (judged d w (readingOf h)) h n
+pub step-count : (d : Device) (w n : ℕ) (h : Happening) → d .MCount ≡ n → stepOf d w h .device .MCount ≡ takenBy (judged d w (readingOf h)) h n
 unfolding stepOf watched quiet takenBy
 step-count d w n (happening.Request at q) e = received-count (judged d w at) (watchdogRow d w at) at n q (judged-count d w at n e)
 step-count d w n (happening.Response at f) e = judged-count d w at n e

@@ -1,7 +1,6 @@
 -- `bench::calls::happened` meets its contract. Assumes nothing.
 use mathlib.Core.Path.{sym, _∙_, ap}
 use Rattle.scl.proofs.Cases.{no}
-use Rattle.bench.specs.declared.Act.{Act}
 use Rattle.bench.specs.Calls.{done, hasBlock}
 use borrow.Author.Needs.{needs}
 use Rattle.bench.proofs.calls.happened.Statement.{statement}
