@@ -239,15 +239,8 @@ pub extern "C" fn whakelouna_handed_on<'a>(
     ensures { λ r. ⌜ r ≡ told.handedTold (handing.handedTo port (portAt bench port) (told.endOf device) (told.markNumbered mark) (now (spdu .entry)) (now (safe .entry)) (length (now (out .entry)))) ⌝ }
     ensures { λ _. ⌜ now (out .exit) ≡ handing.handedOut port (portAt bench port) (told.endOf device) (told.markNumbered mark) (now (spdu .entry)) (now (safe .entry)) (now (out .entry)) ⌝ }
 {
-    let handed = bench::hand_on(
-        bench,
-        port,
-        end_of(device),
-        mark_numbered(mark),
-        spdu,
-        safe,
-        out,
-    );
+    let end = end_of(device);
+    let handed = bench::hand_on(bench, port, end, mark_numbered(mark), spdu, safe, out);
     let answer = handed.answer;
     HandedTold {
         number: answer::number(answer),
