@@ -28,7 +28,7 @@ turned s l at o d =
     let w = s .params .«FSP_WatchdogTime» in
     let c = talliedBy (l .totals) w (o .passed && not (o .old)) (elapsedOf at (o .sent)) in
     record {
-      live = record { totals = c .totals; device = d; master = o .master };
+      live = record { totals = c .totals; device = d; master = o .master; unused = l .unused };
       counts = c .counted;
       bin = binOf w (elapsedOf at (o .sent));
       master = o .mark;

@@ -31,14 +31,14 @@ histogramOf p = withBins (p .live .totals) (p .bins)
 
 -- both ends in their first state, no sample
 abbrev pub firstLive : ℕ → Live
-firstLive at = record { totals = totalsOf clearedOf; device = firstDevice at; master = firstMaster at }
+firstLive at = record { totals = totalsOf clearedOf; device = firstDevice at; master = firstMaster at; unused = 0 }
 
 -- what an accepted block makes of each part, from the old one
 abbrev pub accepted : Setting → Params → Setting
-accepted s params = record { params = params; running = true }
+accepted s params = record { params = params; running = true; unused = s .unused }
 
 abbrev pub begun : Live → ℕ → Live
-begun l at = firstLive at
+begun l at = record { totals = totalsOf clearedOf; device = firstDevice at; master = firstMaster at; unused = l .unused }
 
 -- "An accepted block .. puts both ends of the port in their first state, clears bins, total, trend and frozen mark, and takes W"
 unfoldable pub acceptedPort : Port → Params → ℕ → Port
@@ -47,7 +47,7 @@ acceptedPort p params at = record { setting = accepted (p .setting) params; live
 -- no accepted parameters
 unfoldable pub newPort : Port
 newPort = record {
-  setting = record { params = noParams; running = false };
+  setting = record { params = noParams; running = false; unused = replicate 7 0 };
   live = firstLive 0;
   bins = replicate binCount 0;
 }
@@ -58,8 +58,9 @@ newBench = record { ports = replicate 8 newPort }
 -- what a list of ports is read as past its end: no index gets there
 unfoldable pub noPort : Port
 noPort = record {
-  setting = record { params = noParams; running = false };
+  setting = record { params = noParams; running = false; unused = [] };
   live = record {
+    unused = 0;
     totals = record { sum = 0; total = 0; lowest = 0; highest = 0 };
     device = record {
       state = 0;
@@ -120,7 +121,7 @@ turnOf s l h =
     let d = devices.stepOf (l .device) w h in
     let c = talliedBy (l .totals) w (m .«passes_anew») (m .t) in
     record {
-      live = record { totals = c .totals; device = d .device; master = m .master };
+      live = record { totals = c .totals; device = d .device; master = m .master; unused = l .unused };
       counts = c .counted;
       bin = binOf w (m .t);
       master = m .mark;

@@ -38,7 +38,7 @@ regularResponse s l at f =
     let c = talliedBy (l .totals) w true (timeOf l at) in
     let m = t4 (taken (l .master) f) at (f .SDset) in
     record {
-      live = record { totals = c .totals; device = l .device; master = m };
+      live = record { totals = c .totals; device = l .device; master = m; unused = l .unused };
       counts = c .counted;
       bin = binOf w (timeOf l at);
       master = markOf true (m .released);

@@ -23,6 +23,7 @@ pub(crate) fn new_port() -> Port
         setting: Setting {
             params: block::no_params(),
             running: false,
+            unused: [0u8; 7],
         },
         live: first_live(0),
         bins: [0u32; BIN_COUNT],

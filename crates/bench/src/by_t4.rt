@@ -47,6 +47,7 @@ fn regular_response(setting: Setting, live: Live, at: u32, f: Response) -> Turne
             totals,
             device,
             master,
+            unused: live.unused,
         },
         counts: counted.counted,
         bin: histogram::bin(w, t),

@@ -51,7 +51,7 @@ fn is_last_response(p: Port, spdu: &[u8]) -> bool
     ensures { λ r. ⌜ r ≡ handing.isLastResponse p (now (spdu .entry)) ⌝ }
 {
     let f = spdu::read_response(p.setting.params, spdu);
-    f.signature_holds & f.port_holds & (f.DCount_i == p.live.master.carried)
+    f.signature_holds & f.port_holds & (f.DCount_i as u16 == p.live.master.carried)
 }
 
 fn is_last_request(p: Port, spdu: &[u8]) -> bool

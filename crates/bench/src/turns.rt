@@ -27,6 +27,7 @@ pub(crate) fn first_live(at: u32) -> Live
         totals: histogram::totals_of(histogram::cleared()),
         device: fs_device::first(at),
         master: fs_master::first(at),
+        unused: 0,
     }
 }
 
@@ -59,6 +60,7 @@ pub fn turn(setting: Setting, live: Live, happening: Happening) -> Turned
             totals,
             device,
             master,
+            unused: live.unused,
         },
         counts: counted.counted,
         bin: histogram::bin(w, moved.t),

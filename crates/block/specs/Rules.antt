@@ -31,7 +31,7 @@ fieldRules b =
     modeRules (p .PortMode)
     ++ (deviceRules (p .ValidationBackup) (p .IQBehavior) (p .VendorID) (p .DeviceID) (p .InputDataLength) (p .OutputDataLength)
     ++ (protocolRules (p .«FSP_Port») (p .«FSP_ProtVersion») (p .«FSP_ProtMode») (p .«FSP_WatchdogTime»)
-    ++ (descriptionRules (b .«IO_DescVersion»)
+    ++ (descriptionRules (b .params .«IO_DescVersion»)
     ++ (inputRules (p .«FSP_ProtMode») (p .InputDataLength) (p .SPDUInLength) (p .TotalOfInBits) (p .TotalOfInOctets) (p .TotalOfInInt16) (p .TotalOfInInt32)
     ++ outputRules (p .«FSP_ProtMode») (p .OutputDataLength) (p .SPDUOutLength) (p .TotalOfOutBits) (p .TotalOfOutOctets) (p .TotalOfOutInt16) (p .TotalOfOutInt32)))))
 
@@ -67,6 +67,7 @@ noParams = record {
   «FSP_ProtMode» = 0;
   «FSP_WatchdogTime» = 0;
   «FSP_TechParCRC» = 0;
+  «IO_DescVersion» = 0;
   SPDUInLength = 0;
   TotalOfInBits = 0;
   TotalOfInOctets = 0;

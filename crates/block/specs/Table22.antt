@@ -8,7 +8,7 @@ use Rattle.block.specs.declared.Signatures.{Signatures}
 use Rattle.block.specs.declared.Block.{Block}
 use Rattle.block.specs.Octets.{unsigned8, unsigned16, unsigned32, offsets}
 
--- the elements of an accepted block that a caller can be shown: all but the ID, the three signatures that are checked, and IO_DescVersion
+-- the elements of an accepted block that a caller can be shown: all but the ID and the three signatures that are checked
 abbrev pub paramsOf : List ℕ → Params
 paramsOf s = record {
   PortMode = unsigned8 s 2;
@@ -26,6 +26,7 @@ paramsOf s = record {
   «FSP_ProtMode» = unsigned8 s 26;
   «FSP_WatchdogTime» = unsigned16 s 27;
   «FSP_TechParCRC» = unsigned32 s 31;
+  «IO_DescVersion» = unsigned8 s 37;
   SPDUInLength = unsigned8 s 38;
   TotalOfInBits = unsigned8 s 39;
   TotalOfInOctets = unsigned8 s 40;
@@ -47,7 +48,7 @@ carried s = record {
 }
 
 abbrev pub blockOf : List ℕ → Block
-blockOf s = record { ArgBlockID = unsigned16 s 0; params = paramsOf s; signatures = carried s; «IO_DescVersion» = unsigned8 s 37 }
+blockOf s = record { ArgBlockID = unsigned16 s 0; params = paramsOf s; signatures = carried s }
 
 -- 000 A.2.3, A.2.7, A.2.9: the short signature, seed 0 (D.3.6), over the values as they stand in the block (R7)
 abbrev pub parameterSignature : List ℕ → ℕ

@@ -9,32 +9,33 @@ use answer::Answer;
 use answer::refuse;
 pub use octets::word;
 
-// An accepted block as it stands, under 000's names: all but its ID, the three signatures that are checked, and IO_DescVersion. The layers above read
+// An accepted block as it stands, under 000's names: all but its ID and the three signatures that are checked. The layers above read
 // FSP_Port, FSP_ProtMode, FSP_WatchdogTime (W) and the four lengths: InputDataLength is n, OutputDataLength p, SPDUInLength m, SPDUOutLength o.
-// They read no other field; the others are kept so that a caller can be shown the accepted block.
+// They read no other field; the others are kept so that a caller can be shown the accepted block. The widest stand first, so that no octet is padding.
 #[repr(C)]
 pub struct Params {
+    pub DeviceID: u32,
+    pub FSCP_Authenticity1: u32,
+    pub FSCP_Authenticity2: u32,
+    pub FSP_TechParCRC: u32,
+    pub VendorID: u16,
+    pub FSP_WatchdogTime: u16,
     pub PortMode: u8,
     pub ValidationBackup: u8,
     pub IQBehavior: u8,
     pub PortCycleTime: u8,
-    pub VendorID: u16,
-    pub DeviceID: u32,
     pub InputDataLength: u8,
     pub OutputDataLength: u8,
-    pub FSCP_Authenticity1: u32,
-    pub FSCP_Authenticity2: u32,
     pub FSP_Port: u8,
     pub FSP_ProtVersion: u8,
     pub FSP_ProtMode: u8,
-    pub FSP_WatchdogTime: u16,
-    pub FSP_TechParCRC: u32,
+    pub IO_DescVersion: u8,
     pub SPDUInLength: u8,
+    pub SPDUOutLength: u8,
     pub TotalOfInBits: u8,
     pub TotalOfInOctets: u8,
     pub TotalOfInInt16: u8,
     pub TotalOfInInt32: u8,
-    pub SPDUOutLength: u8,
     pub TotalOfOutBits: u8,
     pub TotalOfOutOctets: u8,
     pub TotalOfOutInt16: u8,
@@ -53,7 +54,6 @@ pub struct Block {
     pub ArgBlockID: u16,
     pub params: Params,
     pub signatures: Signatures,
-    pub IO_DescVersion: u8,
 }
 
 // The answer, and the parameters of a block that is taken; of a refusal none.
@@ -104,6 +104,7 @@ pub fn no_params() -> Params
         FSP_ProtMode: 0,
         FSP_WatchdogTime: 0,
         FSP_TechParCRC: 0,
+        IO_DescVersion: 0,
         SPDUInLength: 0,
         TotalOfInBits: 0,
         TotalOfInOctets: 0,
@@ -127,7 +128,7 @@ fn fields(a: Answer, b: Block) -> Answer
     ensures { λ r. ⌜ r ≡ answerBy a (fieldRules b) ⌝ }
 {
     let p = b.params;
-    let version = b.IO_DescVersion;
+    let version = p.IO_DescVersion;
     let a = ranges::port_mode(a, p.PortMode);
     let a = ranges::device(
         a,

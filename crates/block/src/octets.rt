@@ -50,6 +50,7 @@ fn params(s: &[u8]) -> Params
         FSP_ProtMode: s[26],
         FSP_WatchdogTime: unsigned16(s, 27),
         FSP_TechParCRC: unsigned32(s, 31),
+        IO_DescVersion: s[37],
         SPDUInLength: s[38],
         TotalOfInBits: s[39],
         TotalOfInOctets: s[40],
@@ -82,7 +83,6 @@ pub(crate) fn block(s: &[u8]) -> Block
         ArgBlockID: unsigned16(s, 0),
         params: params(s),
         signatures: signatures(s),
-        IO_DescVersion: s[37],
     }
 }
 

@@ -3,7 +3,7 @@ use Prim.Native.Nat.{ℕ}
 use mathlib.Core.Bool.{Bool, cond}
 use mathlib.Core.List.{List}
 use lib.Dec.{eqb}
-use lib.ListN.{length}
+use lib.ListN.{length, replicate}
 use Rattle.answer.specs.Answers.{numberOf, offsetOf}
 use Rattle.scl.specs.declared.Mark.{Mark}
 use Rattle.scl.specs.declared.Mark.the-variants.{Fresh, GoesOn, Safe, Nothing}
@@ -36,6 +36,7 @@ replyTold r = record {
   device = markNumberOf (r .device);
   «master_releases» = r .«master_releases»;
   «device_releases» = r .«device_releases»;
+  unused = replicate 2 0;
 }
 
 abbrev pub benchTold : BenchAfter → BenchTold
@@ -46,6 +47,7 @@ splitTold port p octets = record {
   number = numberOf (splitAnswer port p octets);
   spdu = length (spduPart port p octets);
   other = length (otherPart port p octets);
+  unused = replicate 7 0;
 }
 
 -- the mark that a number stands for (`markNumberOf`); a number that stands for none hands on nothing
@@ -56,16 +58,16 @@ abbrev pub endOf : Bool → End
 endOf device = cond device end.Device end.Master
 
 abbrev pub handedTold : Handed → HandedTold
-handedTold h = record { number = numberOf (h .answer); octets = h .octets }
+handedTold h = record { number = numberOf (h .answer); octets = h .octets; unused = replicate 7 0 }
 
 abbrev pub trendTold : Trend → NumberedTrend
-trendTold t = record { number = numberOf (t .answer); point = t .point }
+trendTold t = record { number = numberOf (t .answer); point = t .point; unused = replicate 7 0 }
 
 abbrev pub binsTold : Bins → BinsTold
-binsTold b = record { number = numberOf (b .answer); bins = b .bins; total = b .total; frozen = b .frozen }
+binsTold b = record { number = numberOf (b .answer); bins = b .bins; total = b .total; frozen = b .frozen; unused = replicate 2 0 }
 
 abbrev pub masterShown : MasterShown → MasterTold
-masterShown m = record { number = numberOf (m .answer); master = m .master }
+masterShown m = record { number = numberOf (m .answer); master = m .master; unused = replicate 3 0 }
 
 abbrev pub deviceShown : DeviceShown → DeviceTold
-deviceShown d = record { number = numberOf (d .answer); device = d .device }
+deviceShown d = record { number = numberOf (d .answer); device = d .device; unused = replicate 3 0 }

@@ -1,4 +1,5 @@
 -- A machine's outcome in numbers, for other languages. Assumes nothing.
+use lib.ListN.{replicate}
 use Rattle.scl.specs.Happenings.{checkNumberOf, markNumberOf}
 use Rattle.fs_device.specs.Table40 as table40
 use Rattle.fs_device.specs.declared.Outcome as device
@@ -16,6 +17,7 @@ deviceTold o = record {
   old = o .old;
   passed = o .passed;
   mark = markNumberOf (o .mark);
+  unused = replicate 2 0;
 }
 
 abbrev pub masterTold : master.Outcome → MasterOutcome
@@ -27,4 +29,5 @@ masterTold o = record {
   old = o .old;
   passed = o .passed;
   mark = markNumberOf (o .mark);
+  unused = replicate 2 0;
 }

@@ -1,4 +1,5 @@
 -- A fed block in numbers, for other languages. Assumes nothing.
+use lib.ListN.{replicate}
 use Prim.Native.Nat.{ℕ}
 use Rattle.session.specs.declared.Fed.{Fed}
 use Rattle.session.specs.declared.Stop.{Stop}
@@ -13,4 +14,4 @@ stopNumberOf Cut = 2
 stopNumberOf End = 3
 
 abbrev pub fedTold : Fed → FedTold
-fedTold f = record { state = f .state; used = f .used; written = f .written; stop = stopNumberOf (f .stop) }
+fedTold f = record { state = f .state; used = f .used; written = f .written; stop = stopNumberOf (f .stop); unused = replicate 7 0 }

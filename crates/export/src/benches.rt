@@ -26,6 +26,7 @@ pub struct ReplyTold {
     pub device: u8,
     pub master_releases: bool,
     pub device_releases: bool,
+    pub unused: [u8; 2],
 }
 
 #[repr(C)]
@@ -36,40 +37,46 @@ pub struct BenchTold {
 
 #[repr(C)]
 pub struct SplitTold {
-    pub number: u8,
     pub spdu: usize,
     pub other: usize,
+    pub number: u8,
+    pub unused: [u8; 7],
 }
 
 #[repr(C)]
 pub struct HandedTold {
-    pub number: u8,
     pub octets: usize,
+    pub number: u8,
+    pub unused: [u8; 7],
 }
 
 #[repr(C)]
 pub struct BinsTold {
-    pub number: u8,
     pub bins: [u32; BIN_COUNT],
     pub total: u32,
+    pub number: u8,
     pub frozen: bool,
+    pub unused: [u8; 2],
 }
 
 #[repr(C)]
 pub struct MasterTold {
-    pub number: u8,
     pub master: Master,
+    pub number: u8,
+    pub unused: [u8; 3],
 }
 
 #[repr(C)]
 pub struct DeviceTold {
-    pub number: u8,
     pub device: Device,
+    pub number: u8,
+    pub unused: [u8; 3],
 }
 
 fn bench_told(after: BenchAfter) -> BenchTold
     ensures { λ r. ⌜ r ≡ told.benchTold after ⌝ }
 {
+    let unused = [0u8; 2];
     let bench = after.bench;
     let reply = after.reply;
     let answer = reply.answer;
@@ -84,6 +91,7 @@ fn bench_told(after: BenchAfter) -> BenchTold
             device: scl::mark_number(device),
             master_releases: reply.master_releases,
             device_releases: reply.device_releases,
+            unused,
         },
     }
 }
@@ -193,11 +201,13 @@ pub extern "C" fn whakelouna_build_response(
 pub extern "C" fn whakelouna_split(bench: Bench, port: u8, octets: &[u8]) -> SplitTold
     ensures { λ r. ⌜ r ≡ told.splitTold port (portAt bench port) (now (octets .entry)) ⌝ }
 {
+    let unused = [0u8; 7];
     let answer = bench::split(bench, port, octets);
     SplitTold {
         number: answer::number(answer),
         spdu: bench::spdu_part(bench, port, octets).len(),
         other: bench::other_part(bench, port, octets).len(),
+        unused,
     }
 }
 
@@ -239,12 +249,14 @@ pub extern "C" fn whakelouna_handed_on<'a>(
     ensures { λ r. ⌜ r ≡ told.handedTold (handing.handedTo port (portAt bench port) (told.endOf device) (told.markNumbered mark) (now (spdu .entry)) (now (safe .entry)) (length (now (out .entry)))) ⌝ }
     ensures { λ _. ⌜ now (out .exit) ≡ handing.handedOut port (portAt bench port) (told.endOf device) (told.markNumbered mark) (now (spdu .entry)) (now (safe .entry)) (now (out .entry)) ⌝ }
 {
+    let unused = [0u8; 7];
     let end = end_of(device);
     let handed = bench::hand_on(bench, port, end, mark_numbered(mark), spdu, safe, out);
     let answer = handed.answer;
     HandedTold {
         number: answer::number(answer),
         octets: handed.octets,
+        unused,
     }
 }
 
@@ -252,12 +264,14 @@ pub extern "C" fn whakelouna_handed_on<'a>(
 pub extern "C" fn whakelouna_trend(bench: Bench, port: u8) -> NumberedTrend
     ensures { λ r. ⌜ r ≡ told.trendTold (shown.trendOf port (portAt bench port)) ⌝ }
 {
+    let unused = [0u8; 7];
     let trend = bench::trend_of(bench, port);
     let answer = trend.answer;
     let point = trend.point;
     NumberedTrend {
         number: answer::number(answer),
         point,
+        unused,
     }
 }
 
@@ -265,6 +279,7 @@ pub extern "C" fn whakelouna_trend(bench: Bench, port: u8) -> NumberedTrend
 pub extern "C" fn whakelouna_bins(bench: Bench, port: u8) -> BinsTold
     ensures { λ r. ⌜ r ≡ told.binsTold (shown.binsOf port (portAt bench port)) ⌝ }
 {
+    let unused = [0u8; 2];
     let shown = bench::bins_of(bench, port);
     let answer = shown.answer;
     let bins = shown.bins;
@@ -273,6 +288,7 @@ pub extern "C" fn whakelouna_bins(bench: Bench, port: u8) -> BinsTold
         bins,
         total: shown.total,
         frozen: shown.frozen,
+        unused,
     }
 }
 
@@ -280,12 +296,14 @@ pub extern "C" fn whakelouna_bins(bench: Bench, port: u8) -> BinsTold
 pub extern "C" fn whakelouna_master(bench: Bench, port: u8) -> MasterTold
     ensures { λ r. ⌜ r ≡ told.masterShown (shown.masterOf port (portAt bench port)) ⌝ }
 {
+    let unused = [0u8; 3];
     let shown = bench::master_of(bench, port);
     let answer = shown.answer;
     let master = shown.master;
     MasterTold {
         number: answer::number(answer),
         master,
+        unused,
     }
 }
 
@@ -293,11 +311,13 @@ pub extern "C" fn whakelouna_master(bench: Bench, port: u8) -> MasterTold
 pub extern "C" fn whakelouna_device(bench: Bench, port: u8) -> DeviceTold
     ensures { λ r. ⌜ r ≡ told.deviceShown (shown.deviceOf port (portAt bench port)) ⌝ }
 {
+    let unused = [0u8; 3];
     let shown = bench::device_of(bench, port);
     let answer = shown.answer;
     let device = shown.device;
     DeviceTold {
         number: answer::number(answer),
         device,
+        unused,
     }
 }

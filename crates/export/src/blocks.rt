@@ -7,15 +7,17 @@ use block::Params;
 // A block's answer in numbers, its offset, and the parameters, which are zeros in a refusal.
 #[repr(C)]
 pub struct BlockAnswer {
+    pub params: Params,
     pub number: u8,
     pub offset: u8,
-    pub params: Params,
+    pub unused: [u8; 2],
 }
 
 #[no_mangle]
 pub extern "C" fn whakelouna_judge_block(octets: &[u8], port: u8) -> BlockAnswer
     ensures { λ r. ⌜ r ≡ toldOf (judged (now (octets .entry)) port) ⌝ }
 {
+    let unused = [0u8; 2];
     let judged = block::judge(octets, port);
     let answer = judged.answer;
     let params = judged.params;
@@ -23,5 +25,6 @@ pub extern "C" fn whakelouna_judge_block(octets: &[u8], port: u8) -> BlockAnswer
         number: answer::number(answer),
         offset: answer::offset(answer),
         params,
+        unused,
     }
 }

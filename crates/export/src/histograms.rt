@@ -1,5 +1,6 @@
 // The histogram and the trend point (crate histogram).
 ghost use mathlib.Core.Path.{_≡_};
+ghost use lib.ListN.{replicate};
 ghost use Rattle.answer.specs.Answers.{numberOf};
 ghost use Rattle.histogram.specs.Samples.{binOf};
 ghost use Rattle.histogram.specs.Counted.{frozenOf, clearedOf, countedOf};
@@ -10,8 +11,9 @@ use histogram::TrendPoint;
 // A trend point beside its answer number.
 #[repr(C)]
 pub struct NumberedTrend {
-    pub number: u8,
     pub point: TrendPoint,
+    pub number: u8,
+    pub unused: [u8; 7],
 }
 
 #[no_mangle]
@@ -44,13 +46,15 @@ pub extern "C" fn whakelouna_counted(h: Histogram, w: u16, t: u16) -> Histogram
 
 #[no_mangle]
 pub extern "C" fn whakelouna_trend_of(h: Histogram) -> NumberedTrend
-    ensures { λ r. ⌜ r ≡ record { number = numberOf (trendOf h .answer); point = trendOf h .point } ⌝ }
+    ensures { λ r. ⌜ r ≡ record { number = numberOf (trendOf h .answer); point = trendOf h .point; unused = replicate 7 0 } ⌝ }
 {
+    let unused = [0u8; 7];
     let trend = histogram::trend_of(h);
     let answer = trend.answer;
     let point = trend.point;
     NumberedTrend {
         number: answer::number(answer),
         point,
+        unused,
     }
 }

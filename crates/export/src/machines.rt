@@ -22,6 +22,7 @@ pub struct DeviceOutcome {
     pub old: bool,
     pub passed: bool,
     pub mark: u8,
+    pub unused: [u8; 2],
 }
 
 #[repr(C)]
@@ -33,11 +34,13 @@ pub struct MasterOutcome {
     pub old: bool,
     pub passed: bool,
     pub mark: u8,
+    pub unused: [u8; 2],
 }
 
 fn device_told(outcome: fs_device::Outcome) -> DeviceOutcome
     ensures { λ r. ⌜ r ≡ deviceTold outcome ⌝ }
 {
+    let unused = [0u8; 2];
     let device = outcome.device;
     let watchdog = outcome.watchdog;
     let arrival = outcome.arrival;
@@ -51,12 +54,14 @@ fn device_told(outcome: fs_device::Outcome) -> DeviceOutcome
         old: outcome.old,
         passed: outcome.passed,
         mark: scl::mark_number(mark),
+        unused,
     }
 }
 
 fn master_told(outcome: fs_master::Outcome) -> MasterOutcome
     ensures { λ r. ⌜ r ≡ masterTold outcome ⌝ }
 {
+    let unused = [0u8; 2];
     let master = outcome.master;
     let watchdog = outcome.watchdog;
     let arrival = outcome.arrival;
@@ -70,6 +75,7 @@ fn master_told(outcome: fs_master::Outcome) -> MasterOutcome
         old: outcome.old,
         passed: outcome.passed,
         mark: scl::mark_number(mark),
+        unused,
     }
 }
 

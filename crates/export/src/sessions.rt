@@ -13,6 +13,7 @@ pub struct FedTold {
     pub used: usize,
     pub written: usize,
     pub stop: u8,
+    pub unused: [u8; 7],
 }
 
 fn stop_number(stop: Stop) -> u8
@@ -29,6 +30,7 @@ fn stop_number(stop: Stop) -> u8
 fn fed_told(fed: Fed) -> FedTold
     ensures { λ r. ⌜ r ≡ told.fedTold fed ⌝ }
 {
+    let unused = [0u8; 7];
     let state = fed.state;
     let stop = fed.stop;
     FedTold {
@@ -36,6 +38,7 @@ fn fed_told(fed: Fed) -> FedTold
         used: fed.used,
         written: fed.written,
         stop: stop_number(stop),
+        unused,
     }
 }
 

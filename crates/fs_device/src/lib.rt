@@ -9,21 +9,21 @@ pub use table40::row_number;
 
 // 000's variables under their names, between two calls. `state` is 000's number: 21, 24 or 26. MCount is that of the last SPDU taken; DTimer
 // is the reading of its last restart, and `runs` says whether there was one. `released`: PDout is in use. `responded`: a response has been
-// prepared; before it the outgoing SPDU is zeros.
+// prepared; before it the outgoing SPDU is zeros. Both counts of errors are u16, so that no octet of the struct is padding.
 #[repr(C)]
 pub struct Device {
+    pub DTimer: u32,
+    pub CommErrCount: u16,
+    pub TimeoutCount: u16,
     pub state: u8,
     pub SDcycles: u8,
-    pub CommErrCount: u8,
-    pub TimeoutCount: u8,
+    pub DCount_i: u8,
+    pub MCount: u8,
     pub DCommErr: bool,
     pub DTimeout: bool,
     pub SDset: bool,
     pub setSD_DC: bool,
     pub ChFAckReq_DC: bool,
-    pub DCount_i: u8,
-    pub MCount: u8,
-    pub DTimer: u32,
     pub runs: bool,
     pub released: bool,
     pub responded: bool,

@@ -135,10 +135,16 @@ fn t28(d: Device, at: u32) -> Device
     n
 }
 
-fn either(test: bool, a: u8, b: u8) -> u8
+fn either(test: bool, a: u16, b: u16) -> u16
     ensures { λ r. ⌜ r ≡ cond test a b ⌝ }
 {
     if test { a } else { b }
+}
+
+fn cycles_after(CommErr: bool, SDcycles: u8) -> u8
+    ensures { λ r. ⌜ r ≡ cond CommErr 3 (SDcycles - 1) ⌝ }
+{
+    if CommErr { 3 } else { less(SDcycles) }
 }
 
 fn t29(d: Device, at: u32, CommErr: bool) -> Device
@@ -153,7 +159,7 @@ fn t29(d: Device, at: u32, CommErr: bool) -> Device
     n.DCount_i = scl::inverted_count(d.MCount);
     n.DTimer = at;
     n.runs = true;
-    n.SDcycles = either(CommErr, 3, less(d.SDcycles));
+    n.SDcycles = cycles_after(CommErr, d.SDcycles);
     n.DCommErr = errors == 1;
     n.CommErrCount = either(errors == 1, 0, errors);
     n.DTimeout = d.TimeoutCount == 1;

@@ -11,9 +11,14 @@ pub use table38::row_number;
 
 // 000's variables under their names, between two calls. `state` is 000's number: 2, 5 or 7. setSD_C and ChFAck_C are the operator signals as
 // they hold. Of the previous SPDU, if there was one: the DCount_i that it carried and the one awaited of it. MTimer is the reading of its last
-// restart, and `runs` says whether there was one; `sample` is the reading from which a sample's time runs. `released`: PDin is in use.
+// restart, and `runs` says whether there was one; `sample` is the reading from which a sample's time runs. `released`: PDin is in use. Both counts
+// are u16, so that no octet of the struct is padding.
 #[repr(C)]
 pub struct Master {
+    pub MTimer: u32,
+    pub sample: u32,
+    pub carried: u16,
+    pub awaited: u16,
     pub state: u8,
     pub MCount: u8,
     pub setSD: bool,
@@ -24,11 +29,7 @@ pub struct Master {
     pub setSD_C: bool,
     pub ChFAck_C: bool,
     pub previous: bool,
-    pub carried: u8,
-    pub awaited: u8,
-    pub MTimer: u32,
     pub runs: bool,
-    pub sample: u32,
     pub released: bool,
 }
 

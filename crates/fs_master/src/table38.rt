@@ -39,7 +39,7 @@ pub(crate) fn is_expected(m: Master, f: Response) -> bool
 pub(crate) fn is_old(m: Master, f: Response) -> bool
     ensures { λ r. ⌜ r ≡ table38.isOld m f ⌝ }
 {
-    !f.all_zero & m.previous & ((f.DCount_i == m.carried) | (f.DCount_i == m.awaited))
+    !f.all_zero & m.previous & ((f.DCount_i as u16 == m.carried) | (f.DCount_i as u16 == m.awaited))
 }
 
 pub(crate) fn is_taken(m: Master, f: Response, old: bool) -> bool
@@ -94,8 +94,8 @@ pub(crate) fn taken(m: Master, f: Response) -> Master
 {
     let mut n = m;
     n.previous = true;
-    n.carried = f.DCount_i;
-    n.awaited = scl::inverted_count(m.MCount);
+    n.carried = f.DCount_i as u16;
+    n.awaited = scl::inverted_count(m.MCount) as u16;
     n
 }
 

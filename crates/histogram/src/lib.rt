@@ -16,9 +16,9 @@ pub const LIMIT: u32 = 4294967295;
 // Samples are in ms. Where there is none, the lowest and the highest are 0.
 #[repr(C)]
 pub struct Histogram {
+    pub sum: u64,
     pub bins: [u32; BIN_COUNT],
     pub total: u32,
-    pub sum: u64,
     pub lowest: u16,
     pub highest: u16,
 }

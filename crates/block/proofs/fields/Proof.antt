@@ -20,7 +20,7 @@ returns c =
     (at-input .input .ensures
     ∙ onward (inputRules (p .«FSP_ProtMode») (p .InputDataLength) (p .SPDUInLength) (p .TotalOfInBits) (p .TotalOfInOctets) (p .TotalOfInInt16) (p .TotalOfInInt32))
     (at-description .description .ensures
-    ∙ onward (descriptionRules (b .«IO_DescVersion»))
+    ∙ onward (descriptionRules (b .params .«IO_DescVersion»))
     (at-protocol .protocol .ensures
     ∙ onward (protocolRules (p .«FSP_Port») (p .«FSP_ProtVersion») (p .«FSP_ProtMode») (p .«FSP_WatchdogTime»))
     (at-device .device .ensures

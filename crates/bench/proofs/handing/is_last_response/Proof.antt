@@ -7,4 +7,4 @@ returns : tie.Need-returns
 returns c = simp (c .before .before .before .read-response .ensures)
 
 pub is-last-response-spec : {M : Type 1} → statement M
-is-last-response-spec = tie.close (tie.spec (λ c κs. search needs) returns)
+is-last-response-spec = tie.close (tie.spec (λ c κs. search needs) (λ c. search needs) returns)

@@ -5,7 +5,7 @@ use Rattle.block.proofs.octets.params.Tie as tie
 
 returns : tie.Need-returns
 returns c =
-    let c1 = c .before .before .before .before .before .before .before .before .before .before in
+    let c1 = c .before .before .before .before .before .before .before .before .before .before .before in
     let c2 = c1 .before in
     let c3 = c2 .before .before .before .before in
     let c4 = c3 .before in
@@ -32,6 +32,7 @@ params-spec =
     (λ c. search needs)
     (λ c κs. search needs)
     (λ c κs. search needs)
+    (λ c. search needs)
     (λ c. search needs)
     (λ c. search needs)
     (λ c. search needs)

@@ -8,4 +8,4 @@ unfolding taken
 returns c = simp (c .inverted-count .ensures)
 
 pub taken-spec : {M : Type 1} → statement M
-taken-spec = tie.close (tie.spec (λ c κs. search needs) returns)
+taken-spec = tie.close (tie.spec (λ c. search needs) (λ c κs. search needs) (λ c. search needs) returns)
