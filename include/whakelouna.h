@@ -143,12 +143,6 @@ uint8_t whakelouna_build_response_by(const uint16_t short_table[256], const uint
     struct whakelouna_params params, bool responded, uint8_t DCount_i, bool SDset, bool DCommErr, bool DTimeout,
     const uint8_t *process, size_t process_length, uint8_t *out, size_t out_length);
 
-// How many SPDUs of n octets each, one behind the other, have a signature that holds; none where n octets are too few for an SPDU of the
-// protocol mode (1, or another value for 2). Octets at the end that fill no SPDU are left out. `_by` takes both signature tables.
-size_t whakelouna_signatures_held(uint8_t mode, uint8_t n, const uint8_t *octets, size_t length);
-size_t whakelouna_signatures_held_by(const uint16_t short_table[256], const uint32_t long_table[256],
-    uint8_t mode, uint8_t n, const uint8_t *octets, size_t length);
-
 // The SCL machines of 000 Tables 38 and 40, and what a call does: rows by 000's numbers, 0 for none; the check that failed first (0 none,
 // 1 signature, 2 port number, 3 count); the mark (0 fresh octets, 1 release goes on, 2 safe values).
 struct whakelouna_master {

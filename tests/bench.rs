@@ -1,5 +1,5 @@
 // The library's bench of eight ports (document 01) against a model of it: random histories of every call, and runs whose course
-// is known.
+// is known; and that no call reads what has a wrong length.
 // Argument: the seed of the random inputs, or none.
 
 mod as_model;
@@ -10,6 +10,7 @@ mod good_blocks;
 mod library;
 mod model;
 mod random;
+mod unread;
 
 use bench_pair::{Lent, Pair};
 use bench_runs::Runs;
@@ -370,6 +371,7 @@ fn main() {
     let mut random = Random::from_arguments("bench");
     Runs { pair: &mut pair, random: &mut random, port: 1, at: 0 }.run();
     Histories { pair: &mut pair, random: &mut random, lines: Default::default() }.run();
+    unread::run(&mut pair.comparisons, &mut random);
     finish(pair);
 }
 

@@ -95,15 +95,6 @@ extern "C" {
         out: *mut u8,
         out_length: usize,
     ) -> u8;
-    fn whakelouna_signatures_held(mode: u8, n: u8, octets: *const u8, length: usize) -> usize;
-    fn whakelouna_signatures_held_by(
-        short: &[u16; 256],
-        long: &[u32; 256],
-        mode: u8,
-        n: u8,
-        octets: *const u8,
-        length: usize,
-    ) -> usize;
     fn whakelouna_elapsed(now: u32, since: u32) -> u32;
     fn whakelouna_master_first(at: u32) -> Master;
     fn whakelouna_master_response(m: Master, w: u16, at: u32, response: Response) -> MasterOutcome;
@@ -216,7 +207,7 @@ pub struct BlockAnswer {
 
 /// The elements of 000 Table 22 that an accepted block hands on.
 #[repr(C)]
-#[derive(Clone, Copy, Debug, PartialEq)]
+#[derive(Clone, Copy, Debug, Default, PartialEq)]
 pub struct Params {
     pub port_mode: u8,
     pub validation_backup: u8,
@@ -518,10 +509,6 @@ pub fn judge_block(octets: &[u8], port: u8) -> BlockAnswer {
     unsafe { whakelouna_judge_block(octets.as_ptr(), octets.len(), port) }
 }
 
-pub fn signatures_held(mode: u8, n: u8, octets: &[u8]) -> usize {
-    unsafe { whakelouna_signatures_held(mode, n, octets.as_ptr(), octets.len()) }
-}
-
 pub fn elapsed(now: u32, since: u32) -> u32 {
     unsafe { whakelouna_elapsed(now, since) }
 }
@@ -748,11 +735,5 @@ impl Tables {
                 out.len(),
             )
         }
-    }
-
-    pub fn signatures_held(&self, mode: u8, n: u8, octets: &[u8]) -> usize {
-        let Tables { short, long } = self;
-        let (start, length) = (octets.as_ptr(), octets.len());
-        unsafe { whakelouna_signatures_held_by(short, long, mode, n, start, length) }
     }
 }

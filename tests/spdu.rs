@@ -129,16 +129,6 @@ impl Test {
             self.odd_parameters(direction);
             self.random_octets(direction);
         }
-        for (mode, least, most) in FITTING {
-            for length in least..=most {
-                self.recordings(mode, length, 40);
-            }
-        }
-        for length in 0..=u8::MAX {
-            for mode in [0, 1, 2, 3, 7, 255] {
-                self.recordings(mode, length, 1);
-            }
-        }
     }
 
     fn values(&mut self) -> Values {
@@ -346,42 +336,6 @@ impl Test {
                 self.compare_read(&format, &spdu);
                 self.compare_read(&format, &vec![0; size]);
             }
-        }
-    }
-
-    /// SPDUs one behind the other, and octets that fill no SPDU behind them.
-    fn recordings(&mut self, mode: u8, length: u8, count: usize) {
-        let format = Format { direction: Direction::Response, mode, port: 0, length };
-        for _ in 0..count {
-            let mut recording = Vec::new();
-            for _ in 0..self.random.below(10) {
-                recording.extend(self.recorded(&format));
-            }
-            let rest = self.random.below(usize::from(length).max(1));
-            recording.extend(self.random.octets(rest));
-            let expected = format.signatures_held(&recording);
-            let lent = self.tables.signatures_held(mode, length, &recording);
-            let plain = library::signatures_held(mode, length, &recording);
-            self.comparisons.compare((expected, expected), (lent, plain), || {
-                format!("held in a recording, {format:?}, {}", octets_text(&recording))
-            });
-        }
-    }
-
-    /// A signed SPDU, one of which bits are flipped, zeros, or any octets.
-    fn recorded(&mut self, format: &Format) -> Vec<u8> {
-        let length = usize::from(format.length);
-        match self.random.below(8) {
-            0 => vec![0; length],
-            _ if length < format.safety_octets() => self.random.octets(length),
-            1 => self.random.octets(length),
-            2 | 3 => {
-                let spdu = self.valid(format);
-                let kind = &flips::KINDS[self.random.below(flips::KINDS.len())];
-                let flips = (kind.choose)(&mut self.random, format.generator(), 8 * length);
-                flipped(&spdu, &flips)
-            }
-            _ => self.valid(format),
         }
     }
 

@@ -131,13 +131,4 @@ impl Format {
             all_zero: spdu.iter().all(|&octet| octet == 0),
         }
     }
-
-    /// How many SPDUs of a recording have a signature that holds. One shorter than H is none.
-    pub fn signatures_held(&self, recording: &[u8]) -> usize {
-        let length = usize::from(self.length);
-        if length < self.safety_octets() {
-            return 0;
-        }
-        recording.chunks_exact(length).filter(|spdu| self.read(spdu).signature_holds).count()
-    }
 }

@@ -2,10 +2,9 @@
 ghost use mathlib.Core.Path.{_≡_};
 ghost use lib.ListN.{length};
 ghost use Rattle.answer.specs.Answers.{numberOf};
-ghost use Rattle.spdu.specs.Signature.{byBits, byTables};
+ghost use Rattle.spdu.specs.Signature.{byTables};
 ghost use Rattle.spdu.specs.Fields.{responseBy, requestBy};
 ghost use Rattle.spdu.specs.Built.{buffersHold, builtAs, requestBuilt, responseBuilt};
-ghost use Rattle.spdu.specs.Recording.{signaturesHeld};
 use block::Params;
 use scl::Request;
 use scl::Response;
@@ -81,25 +80,4 @@ pub extern "C" fn whakelouna_build_response_by(
         process,
         out,
     ))
-}
-
-// How many of the SPDUs of n octets, one behind the other, have a signature that holds.
-#[no_mangle]
-pub extern "C" fn whakelouna_signatures_held_by(
-    short: &[u16; 256],
-    long: &[u32; 256],
-    mode: u8,
-    n: u8,
-    octets: &[u8],
-) -> usize
-    ensures { λ r. ⌜ r ≡ signaturesHeld (byTables (now (short .entry)) (now (long .entry))) mode n (now (octets .entry)) ⌝ }
-{
-    spdu::signatures_held_by(short, long, mode, n, octets)
-}
-
-#[no_mangle]
-pub extern "C" fn whakelouna_signatures_held(mode: u8, n: u8, octets: &[u8]) -> usize
-    ensures { λ r. ⌜ r ≡ signaturesHeld byBits mode n (now (octets .entry)) ⌝ }
-{
-    spdu::signatures_held(mode, n, octets)
 }

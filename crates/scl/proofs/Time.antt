@@ -29,12 +29,12 @@ pub shifted : (now since k : ℕ) → now < 2 ^ 32 → since < 2 ^ 32 → elapse
 unfolding elapsedOf
 shifted now since k now-fits since-fits = omega arith
 
--- the premises are met by 01's numbers, over the wrap, and by others
-pub elapsed-met : 10 ≡ elapsedOf 4 4294967290
-elapsed-met = elapsed-is 10 4 4294967290 (omega arith) (omega arith) refl
+-- the premises are met, by readings over the wrap and by others
+pub elapsed-met : 246 ≡ elapsedOf 150 4294967200
+elapsed-met = elapsed-is 246 150 4294967200 (omega arith) (omega arith) refl
 
-pub meaning-met : (elapsedOf 4 4294967290 + 4294967290) % 2 ^ 32 ≡ 4
-meaning-met = meaning 4 4294967290 (omega arith) (omega arith)
+pub meaning-met : (elapsedOf 150 4294967200 + 4294967200) % 2 ^ 32 ≡ 150
+meaning-met = meaning 150 4294967200 (omega arith) (omega arith)
 
 pub forward-met : elapsedOf 4294967295 4294967290 ≡ 5
 forward-met = forward 4294967295 4294967290 (omega arith) (omega arith)

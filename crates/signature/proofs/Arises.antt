@@ -12,12 +12,12 @@ use Rattle.signature.specs.Lookup.{division, Table}
 use Rattle.signature.proofs.Table.{rule, one-table}
 use Rattle.signature.proofs.Detect.{detects}
 
--- the first 4 entries are a table for 2 bits (01, "Numbers to try")
-pub table-met : Table 16 generator16 2 (0 ∷ 0x4EAB ∷ 0x9D56 ∷ 0xD3FD ∷ [])
+-- a table for 2 bits, of a generator of 8 bits: x^8 + x^2 + x + 1
+pub table-met : Table 8 0x07 2 (0x00 ∷ 0x07 ∷ 0x0E ∷ 0x09 ∷ [])
 unfolding shiftIn shiftInAll division
 table-met = rule tt refl
 
-pub one-table-met : {t : List ℕ} → Table 16 generator16 2 t → t ≡ 0 ∷ 0x4EAB ∷ 0x9D56 ∷ 0xD3FD ∷ []
+pub one-table-met : {t : List ℕ} → Table 8 0x07 2 t → t ≡ 0x00 ∷ 0x07 ∷ 0x0E ∷ 0x09 ∷ []
 one-table-met t = one-table t table-met
 
 -- two octets of which the last bit is flipped, and the generator in their signature: it arrives, so the flips are a multiple

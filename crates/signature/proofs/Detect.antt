@@ -1,20 +1,18 @@
--- What a signature detects: `gf2`'s theorems, said of the signature of octets. Octets xs are sent with their signature; es are the flips of the
+-- What a signature detects: `gf2`'s theorem, said of the signature of octets. Octets xs are sent with their signature; es are the flips of the
 -- octets, and c those of the signature. Assumes nothing.
 use mathlib.Core.Path.{_≡_, refl, sym, ap, ap₂, _∙_}
 use mathlib.Core.Logic.{_↔_, Iff·trans}
 use mathlib.Core.Bool.{Bool}
 use mathlib.Core.List.{List, [], _∷_, _++_}
-use Prim.Native.Nat.{ℕ, _+_, _*_, _%_, _^_, _<_}
+use Prim.Native.Nat.{ℕ, _+_, _*_, _^_, _<_}
 use native.Mathlib.Omega.{arith}
 use lib.Bits.{bitXor, xor-lt}
 use lib.ListN.{length, length-append}
-use Rattle.gf2.specs.Polynomial.{_⊕_, Multiple, ones, Burst}
+use Rattle.gf2.specs.Polynomial.{_⊕_, Multiple}
 use Rattle.gf2.specs.Register.{register, SameLengths, Passes}
 use Rattle.gf2.specs.Bits.{bits, octetBits}
-use Rattle.gf2.specs.Generators.{EndsInOne, EvenOnes}
 use Rattle.gf2.proofs.Sum.{sum-append}
 use Rattle.gf2.proofs.Bits.{bits-length, bits-xor, bits-injective}
-use Rattle.gf2.proofs.Product.{multiple-even, multiple-burst}
 use Rattle.gf2.proofs.Detect as bitwise
 use Rattle.signature.specs.Signature.{signature, flipped}
 use Rattle.signature.proofs.Bridge.{signature-bits, signature-lt}
@@ -60,11 +58,3 @@ module _ (w g seed : ℕ) (xs es : List ℕ) (c : ℕ) (hg : g < 2 ^ w) (hs : se
   -- What arrives passes exactly where the flips, the signature's lowest, are a multiple of the generator.
   pub detects : arrives ↔ Multiple (bits w g) (octetBits es ++ bits w c)
   detects = Iff·trans as-bits (bitwise.detects flips)
-
-  -- Flips within w neighbouring bits pass only if there are none.
-  pub burst-detected : EndsInOne (bits w g) → (i : ℕ) → Burst i w (octetBits es ++ bits w c) → arrives → ones (octetBits es ++ bits w c) ≡ 0
-  burst-detected h i within p = multiple-burst (bits w g) h i (rw bits-length within) (detects .0 p)
-
-  -- An odd number of flips never passes.
-  pub odd-detected : EvenOnes (bits w g) → ones (octetBits es ++ bits w c) % 2 ≡ 1 → arrives → ⊥
-  odd-detected h o p = omega (arith, multiple-even (bits w g) h (detects .0 p))

@@ -1,7 +1,7 @@
 -- The premises of the theorems on what is read can be met, and each mark hands on its part: computed. Assumes nothing.
 use mathlib.Core.Path.{_≡_, refl}
 use mathlib.Core.Bool.{true, false}
-use mathlib.Core.List.{List, [], _∷_, _++_}
+use mathlib.Core.List.{List, [], _∷_}
 use Prim.Native.Nat.{ℕ}
 use native.Mathlib.Omega.{arith}
 use lib.Dec.{lit<}
@@ -18,7 +18,6 @@ use Rattle.spdu.specs.Places.{carriedOf, signatureHolds}
 use Rattle.spdu.specs.Fields.{responseBy, requestBy}
 use Rattle.spdu.specs.Built.{controlOctet, statusOctet, spduWith}
 use Rattle.spdu.specs.Image.{handedOn}
-use Rattle.spdu.specs.Recording.{heldAmong, signaturesHeld}
 use Rattle.spdu.specs.Flips.{flippedSpdu}
 use Rattle.spdu.specs.RoundTrip.{requestBack, responseBack}
 use Rattle.spdu.proofs.ReadBack.{read-carried, built-holds, determined-by-fields}
@@ -114,7 +113,7 @@ long-read = record {
   request-none = arrived.request-none long otherLong 3 0x20 (replicate 10 0) refl (octets-of (replicate 10 0) refl) refl;
 }
 
--- ---- what each mark hands on, and a recording of which one SPDU is damaged
+-- ---- what each mark hands on
 pub each-part :
     handedOn Fresh 1 (sent 0x62) (0 ∷ [])
     ∷ handedOn Safe 1 (sent 0x62) (0 ∷ [])
@@ -124,7 +123,3 @@ pub each-part :
     ≡ (0x2A ∷ []) ∷ (0 ∷ []) ∷ [] ∷ [] ∷ []
 unfolding signature octet shiftInAll shiftIn
 each-part = refl
-
-pub two-of-three : signaturesHeld byBits 1 5 (sent 0x62 ++ (set (sent 0x62) 0 0x2B ++ sent 0x80)) ≡ 2
-unfolding signature octet shiftInAll shiftIn heldAmong
-two-of-three = refl

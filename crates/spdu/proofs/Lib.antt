@@ -5,7 +5,6 @@ pub mod Trailer
 pub mod Buffers
 pub mod Parts
 pub mod Composed
-pub mod Held
 pub mod Numbers
 pub mod Modes
 pub mod ReadBack

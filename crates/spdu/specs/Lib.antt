@@ -3,6 +3,5 @@ pub mod Places
 pub mod Fields
 pub mod Built
 pub mod Image
-pub mod Recording
 pub mod Flips
 pub mod RoundTrip

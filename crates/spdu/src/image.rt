@@ -112,8 +112,12 @@ pub fn handed_on<'a>(mark: Mark, mode: u8, spdu: &'a [u8], safe: &'a [u8]) -> &'
     }
 }
 
+// The length is judged first, so that of safe values of a wrong length no octet is read.
 pub fn safe_values_hold(mode: u8, n: usize, safe: &[u8]) -> bool
     ensures { λ r. ⌜ r ≡ image.safeValuesHold mode n (now (safe .entry)) ⌝ }
 {
-    (safe.len() == process_octets(mode, n)) & all_zero(safe)
+    if safe.len() != process_octets(mode, n) {
+        return false;
+    }
+    all_zero(safe)
 }

@@ -1,12 +1,10 @@
-// Safety PDUs (000 11.4): what is read of one, how one is built, its place in the process data image, the values handed on, and how many of a
-// recording have a signature that holds.
+// Safety PDUs (000 11.4): what is read of one, how one is built, its place in the process data image, and the values handed on.
 //
 // A function whose name ends in `_by` takes the two signature tables, lent, so that a loop names them once; it takes any tables.
 mod build;
 mod image;
 mod plain;
 mod read;
-mod recording;
 
 pub use build::build_request_by;
 pub use build::build_response_by;
@@ -20,9 +18,7 @@ pub use plain::build_response;
 pub use plain::compose;
 pub use plain::read_request;
 pub use plain::read_response;
-pub use plain::signatures_held;
 pub use read::read_request_by;
 pub use read::read_response_by;
 pub use read::request_fields_by;
 pub use read::response_fields_by;
-pub use recording::signatures_held_by;

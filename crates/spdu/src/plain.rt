@@ -5,7 +5,6 @@ ghost use Rattle.spdu.specs.Signature.{byBits};
 ghost use Rattle.spdu.specs.Fields.{responseBy, requestBy};
 ghost use Rattle.spdu.specs.Built.{builtAs, buffersHold, responseBuilt};
 ghost use Rattle.spdu.specs.Image.{composerHolds, composed};
-ghost use Rattle.spdu.specs.Recording.{signaturesHeld};
 use answer::Answer;
 use block::Params;
 use scl::Request;
@@ -81,12 +80,4 @@ pub fn compose(
         other,
         octets,
     )
-}
-
-pub fn signatures_held(mode: u8, n: u8, octets: &[u8]) -> usize
-    ensures { λ r. ⌜ r ≡ signaturesHeld byBits mode n (now (octets .entry)) ⌝ }
-{
-    let short = signature::table16();
-    let long = signature::table32();
-    crate::recording::signatures_held_by(&short, &long, mode, n, octets)
 }

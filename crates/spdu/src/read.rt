@@ -1,12 +1,11 @@
 // Reading a received SPDU.
 ghost use mathlib.Core.Path.{_≡_};
+ghost use mathlib.Core.List.{[]};
 ghost use Prim.Native.Nat.{_+_, _≤_};
 ghost use lib.ListN.{getD, take, length};
 ghost use Rattle.spdu.specs.Signature.{byTables, replaced};
 ghost use Rattle.spdu.specs.Places as places;
 ghost use Rattle.spdu.specs.Fields as fields;
-use crate::recording::long_holds;
-use crate::recording::short_holds;
 use block::Params;
 use block::word;
 use scl::Request;
@@ -82,6 +81,27 @@ fn signature_holds(short: &[u16; 256], long: &[u32; 256], mode: u8, s: &[u8]) ->
     let end = process_octets(mode, s.len()) + 2;
     let right = replace(sign(short, long, mode, first(s, end)));
     carried(mode, s, end) == right
+}
+
+// Of an SPDU that has all safety octets: no place is past its end, so none is tested.
+fn short_holds(short: &[u16; 256], s: &[u8]) -> bool
+    requires { ⌜ 4 ≤ length (now s) ⌝ }
+    ensures { λ r. ⌜ r ≡ places.signatureHolds (byTables (now (short .entry)) []) 1 (now (s .entry)) ⌝ }
+{
+    let end = s.len() - 2;
+    let right = replace(signature::signature16_by(short, 1, &s[..end]) as u32);
+    word(s[end], s[end + 1]) as u32 == right
+}
+
+fn long_holds(long: &[u32; 256], s: &[u8]) -> bool
+    requires { ⌜ 6 ≤ length (now s) ⌝ }
+    ensures { λ r. ⌜ r ≡ places.signatureHolds (byTables [] (now (long .entry))) 2 (now (s .entry)) ⌝ }
+{
+    let end = s.len() - 4;
+    let right = replace(signature::signature32_by(long, 1, &s[..end]));
+    let high = word(s[end], s[end + 1]);
+    let low = word(s[end + 2], s[end + 3]);
+    high as u32 * 65536 + low as u32 == right
 }
 
 // What an SPDU carries behind its process octets; `control` is the status octet of a response.

@@ -1,4 +1,9 @@
 // The signatures of 000 Annex D, against what 000 prints and what an independent program gives.
+ghost use mathlib.Core.Path.{_≡_};
+ghost use mathlib.Core.Bool.{cond};
+ghost use Prim.Native.Nat.{_≤_};
+ghost use lib.Dec.{eqb};
+ghost use Rattle.vectors.specs.Compared.{divided, comparedAll};
 use crate::print::compared;
 use crate::print::decimal;
 use crate::print::hex;
@@ -6,11 +11,7 @@ use crate::print::text;
 use crate::printed::TABLE_D4;
 use crate::printed::TABLE_D7;
 
-// 0 where an entry is printed as its division, else 1, with a line that shows both.
-fn misprint(name: &[u8], i: usize, printed: u64, ours: u64, digits: usize) -> u64 {
-    if printed == ours {
-        return 0;
-    }
+fn misprint_line(name: &[u8], i: usize, printed: u64, ours: u64, digits: usize) {
     text(name);
     text(b": entry ");
     decimal(i as u64);
@@ -19,18 +20,38 @@ fn misprint(name: &[u8], i: usize, printed: u64, ours: u64, digits: usize) -> u6
     text(b", its division is ");
     hex(ours, digits);
     text(b"\n");
+}
+
+// 0 where an entry is printed as its division, else 1, with a line that shows both.
+fn misprint(name: &[u8], i: usize, printed: u64, ours: u64, digits: usize) -> u64
+    ensures { λ r. ⌜ (r ≡ cond (eqb printed ours) 0 1) × (r ≤ 1) ⌝ }
+{
+    if printed == ours {
+        return 0;
+    }
+    misprint_line(name, i, printed, ours, digits);
     1
 }
 
-fn entries(name: &[u8], differ: u64) {
+// How many entries were compared with their divisions, and how many of them differ.
+struct Compared {
+    entries: u64,
+    differ: u64,
+}
+
+fn shown(name: &[u8], found: Compared) {
     text(name);
-    text(b": 256 entries compared with their divisions, ");
-    decimal(differ);
+    text(b": ");
+    decimal(found.entries);
+    text(b" entries compared with their divisions, ");
+    decimal(found.differ);
     text(b" differ\n");
 }
 
 // An entry's division: the octet into an empty register.
-fn division(width: u32, x: u8) -> u64 {
+fn division(width: u32, x: u8) -> u64
+    ensures { λ r. ⌜ r ≡ divided width x ⌝ }
+{
     if width == 16 {
         signature::step16(0, x) as u64
     } else {
@@ -38,19 +59,29 @@ fn division(width: u32, x: u8) -> u64 {
     }
 }
 
-fn wide(x: u32) -> u64 {
+fn wide(x: u32) -> u64
+    ensures { λ r. ⌜ r ≡ x ⌝ }
+{
     x as u64
 }
 
-fn table(name: &[u8], printed: &[u32; 256], width: u32, digits: usize) {
-    let mut differ: u64 = 0;
+fn compare(name: &[u8], printed: &[u32; 256], width: u32, digits: usize) -> Compared
+    ensures { λ r. ⌜ r ≡ comparedAll width (now (printed .entry)) ⌝ }
+{
+    let mut differ = 0;
     let mut i = 0;
     while i < 256 {
-        let more = misprint(name, i, wide(printed[i]), division(width, i as u8), digits);
-        differ = std::num::wrapping_add_u64(differ, more);
+        differ += misprint(name, i, wide(printed[i]), division(width, i as u8), digits);
         i += 1;
     }
-    entries(name, differ);
+    Compared {
+        entries: i as u64,
+        differ,
+    }
+}
+
+fn table(name: &[u8], printed: &[u32; 256], width: u32, digits: usize) {
+    shown(name, compare(name, printed, width, digits));
 }
 
 fn short_table() {

@@ -1,5 +1,7 @@
-// SPDUs of port 3 with three process octets, each built and held to the octets that an independent program gives.
+// SPDUs of port 3 with three process octets, as an independent program gives them: built, composed into an image, split from one, and read.
+use crate::print::compared;
 use crate::print::octets;
+use answer::Answer;
 use block::Params;
 
 // MCount 5, ChFAckReq 1.
@@ -19,6 +21,13 @@ const RESPONSE_32: [u8; 9] = [0x12, 0x34, 0x56, 0x03, 0x45, 0x6A, 0xDA, 0xC8, 0x
 const GENERATOR: [u8; 7] = [0x00, 0x03, 0x3A, 0x03, 0x81, 0x4E, 0xAB];
 
 const REPLACED: [u8; 7] = [0x00, 0x03, 0x3A, 0x03, 0x80, 0x00, 0x01];
+
+// REQUEST_16 and RESPONSE_16 with two octets of other data behind them.
+const REQUEST_IMAGE: [u8; 9] = [0x12, 0x34, 0x56, 0x03, 0xA1, 0xD4, 0x9E, 0xAA, 0xBB];
+
+const RESPONSE_IMAGE: [u8; 9] = [0x12, 0x34, 0x56, 0x03, 0x45, 0xB5, 0x69, 0xAA, 0xBB];
+
+const OTHER: [u8; 2] = [0xAA, 0xBB];
 
 fn params(mode: u8, length: u8) -> Params {
     let mut p = block::no_params();
@@ -90,8 +99,98 @@ fn zero_replaced() {
     octets(b"response that computes 0", &out, &paper);
 }
 
+fn with_other_data(p: Params) -> Params {
+    let mut p = p;
+    p.InputDataLength = 2;
+    p.OutputDataLength = 2;
+    p
+}
+
+fn answered(name: &[u8], answer: Answer, paper: u64) {
+    compared(name, answer::number(answer) as u64, paper);
+}
+
+fn composed() {
+    let p = with_other_data(params(1, 7));
+    let process = [0x12u8, 0x34, 0x56];
+    let other = OTHER;
+    let mut image = [0u8; 9];
+    let answer = spdu::compose(p, 5, false, true, &process, &other, &mut image);
+    answered(b"composed, answer", answer, 0);
+    let paper = REQUEST_IMAGE;
+    octets(b"composed", &image, &paper);
+}
+
+fn split() {
+    let p = with_other_data(params(1, 7));
+    let image = RESPONSE_IMAGE;
+    answered(b"split, answer", spdu::split(p, &image), 0);
+    let paper = RESPONSE_16;
+    octets(b"split, SPDU", spdu::spdu_part(p, &image), &paper);
+    let paper = OTHER;
+    octets(b"split, other data", spdu::other_part(p, &image), &paper);
+    answered(
+        b"one octet short, split, answer",
+        spdu::split(p, &image[..8]),
+        7,
+    );
+}
+
+fn response_read() {
+    let spdu = RESPONSE_16;
+    let r = spdu::read_response(params(1, 7), &spdu);
+    compared(b"response read, length", r.length as u64, 7);
+    compared(b"response read, DCount_i", r.DCount_i as u64, 2);
+    compared(b"response read, SDset", r.SDset as u64, 1);
+    compared(b"response read, DCommErr", r.DCommErr as u64, 0);
+    compared(b"response read, DTimeout", r.DTimeout as u64, 1);
+    compared(b"response read, port holds", r.port_holds as u64, 1);
+    compared(
+        b"response read, signature holds",
+        r.signature_holds as u64,
+        1,
+    );
+    compared(b"response read, all zero", r.all_zero as u64, 0);
+}
+
+fn request_read() {
+    let spdu = REQUEST_32;
+    let r = spdu::read_request(params(2, 9), &spdu);
+    compared(b"request read, length", r.length as u64, 9);
+    compared(b"request read, MCount", r.MCount as u64, 5);
+    compared(b"request read, setSD", r.setSD as u64, 0);
+    compared(b"request read, ChFAckReq", r.ChFAckReq as u64, 1);
+    compared(b"request read, port holds", r.port_holds as u64, 1);
+    compared(
+        b"request read, signature holds",
+        r.signature_holds as u64,
+        1,
+    );
+    compared(b"request read, all zero", r.all_zero as u64, 0);
+}
+
+// DTimeout flipped, and the port number of another port.
+fn damaged_read() {
+    let mut spdu = RESPONSE_16;
+    spdu[4] = 0x44;
+    let r = spdu::read_response(params(1, 7), &spdu);
+    compared(
+        b"damaged response read, signature holds",
+        r.signature_holds as u64,
+        0,
+    );
+    spdu[3] = 0x02;
+    let r = spdu::read_response(params(1, 7), &spdu);
+    compared(b"damaged response read, port holds", r.port_holds as u64, 0);
+}
+
 pub(crate) fn run() {
     requests();
     responses();
     zero_replaced();
+    composed();
+    split();
+    response_read();
+    request_read();
+    damaged_read();
 }

@@ -1,4 +1,4 @@
--- `spdu::recording::long_holds` meets its contract. Assumes nothing.
+-- `spdu::read::long_holds` meets its contract. Assumes nothing.
 use mathlib.Core.Path.{_≡_, sym}
 use Prim.Native.Nat.{_+_, _-_}
 use native.Mathlib.Nat.{add-assoc}
@@ -6,8 +6,8 @@ use native.Mathlib.Omega.{arith}
 use borrow.Author.Needs.{needs}
 use lib.ListN.{length}
 use lib.Seq.{length-take-le}
-use Rattle.spdu.proofs.recording.long_holds.Statement.{statement}
-use Rattle.spdu.proofs.recording.long_holds.Tie as tie
+use Rattle.spdu.proofs.read.long_holds.Statement.{statement}
+use Rattle.spdu.proofs.read.long_holds.Tie as tie
 
 slice-aggregate-signature32-by : tie.Need-slice-aggregate-signature32-by
 slice-aggregate-signature32-by c =

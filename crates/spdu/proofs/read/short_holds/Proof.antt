@@ -1,12 +1,12 @@
--- `spdu::recording::short_holds` meets its contract. Assumes nothing.
+-- `spdu::read::short_holds` meets its contract. Assumes nothing.
 use mathlib.Core.Path.{_≡_, sym}
 use Prim.Native.Nat.{_+_, _-_}
 use native.Mathlib.Omega.{arith}
 use borrow.Author.Needs.{needs}
 use lib.ListN.{length}
 use lib.Seq.{length-take-le}
-use Rattle.spdu.proofs.recording.short_holds.Statement.{statement}
-use Rattle.spdu.proofs.recording.short_holds.Tie as tie
+use Rattle.spdu.proofs.read.short_holds.Statement.{statement}
+use Rattle.spdu.proofs.read.short_holds.Tie as tie
 
 slice-aggregate-signature16-by : tie.Need-slice-aggregate-signature16-by
 slice-aggregate-signature16-by c =
