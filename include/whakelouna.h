@@ -1,5 +1,6 @@
 // The C boundary of libexport.a. Each function takes every input, as long as a pointer has the octets that its length says; what it promises stands in
-// crates/export/src. Where an output buffer has a wrong length nothing is written.
+// crates/export/src. Where an output buffer has a wrong length nothing is written. No struct has padding: `unused` stands in its place, 0 in every
+// result and in a new bench, so that results and benches can be compared and saved octet for octet.
 #ifndef WHAKELOUNA_H
 #define WHAKELOUNA_H
 
@@ -41,9 +42,9 @@ uint32_t whakelouna_signature32_by(const uint32_t table[256], uint32_t seed, con
 
 // The response histogram of a port: samples in ms by 32 bins of the watchdog time.
 struct whakelouna_histogram {
+    uint64_t sum;
     uint32_t bins[32];
     uint32_t total;
-    uint64_t sum;
     uint16_t lowest;
     uint16_t highest;
 };
@@ -55,42 +56,46 @@ struct whakelouna_trend_point {
 };
 
 // A trend point beside its answer number.
-struct whakelouna_trend {
-    uint8_t number;
+struct whakelouna_trend_told {
     struct whakelouna_trend_point point;
+    uint8_t number;
+    uint8_t unused[7];
 };
 
-// time * 32 / (watchdog + 1), rounded down: 0 to 31 where time is at most watchdog, and may be above 31 where it is not.
+// A bin is time * 32 / (watchdog + 1), rounded down: 0 to 31 where time is at most watchdog, and may be above 31 where it is not.
 size_t whakelouna_bin(uint16_t watchdog, uint32_t time);
 
 bool whakelouna_frozen(struct whakelouna_histogram histogram);
 struct whakelouna_histogram whakelouna_cleared(void);
+// One more sample. One above the watchdog time is counted too, in total, sum, lowest and highest, and raises the bin of its number only where there is one:
+// whether a response is a sample is the bench's to judge.
 struct whakelouna_histogram whakelouna_counted(struct whakelouna_histogram histogram, uint16_t watchdog, uint16_t sample);
-struct whakelouna_trend whakelouna_trend_of(struct whakelouna_histogram histogram);
+struct whakelouna_trend_told whakelouna_trend_of(struct whakelouna_histogram histogram);
 
 // What an accepted parameter block hands on, under the names of 000 Table 22.
 struct whakelouna_params {
+    uint32_t DeviceID;
+    uint32_t FSCP_Authenticity1;
+    uint32_t FSCP_Authenticity2;
+    uint32_t FSP_TechParCRC;
+    uint16_t VendorID;
+    uint16_t FSP_WatchdogTime;
     uint8_t PortMode;
     uint8_t ValidationBackup;
     uint8_t IQBehavior;
     uint8_t PortCycleTime;
-    uint16_t VendorID;
-    uint32_t DeviceID;
     uint8_t InputDataLength;
     uint8_t OutputDataLength;
-    uint32_t FSCP_Authenticity1;
-    uint32_t FSCP_Authenticity2;
     uint8_t FSP_Port;
     uint8_t FSP_ProtVersion;
     uint8_t FSP_ProtMode;
-    uint16_t FSP_WatchdogTime;
-    uint32_t FSP_TechParCRC;
+    uint8_t IO_DescVersion;
     uint8_t SPDUInLength;
+    uint8_t SPDUOutLength;
     uint8_t TotalOfInBits;
     uint8_t TotalOfInOctets;
     uint8_t TotalOfInInt16;
     uint8_t TotalOfInInt32;
-    uint8_t SPDUOutLength;
     uint8_t TotalOfOutBits;
     uint8_t TotalOfOutOctets;
     uint8_t TotalOfOutInt16;
@@ -99,17 +104,17 @@ struct whakelouna_params {
 
 // The number and the offset of 01's answer; the parameters are zeros in a refusal.
 struct whakelouna_block_answer {
+    struct whakelouna_params params;
     uint8_t number;
     uint8_t offset;
-    struct whakelouna_params params;
+    uint8_t unused[2];
 };
 
 // The answer to a parameter block for a port.
 struct whakelouna_block_answer whakelouna_judge_block(const uint8_t *octets, size_t length, uint8_t port);
 
-// What an FS-Master reads of an SPDU (000 Table 32). Of another length than SPDUInLength: its length, count 0, every mark false.
+// What an FS-Master reads of an SPDU (000 Table 32). Of another length than SPDUInLength: count 0, every mark false.
 struct whakelouna_response {
-    size_t length;
     uint8_t DCount_i;
     bool SDset;
     bool DCommErr;
@@ -121,7 +126,6 @@ struct whakelouna_response {
 
 // What an FS-Device reads of an SPDU (000 Table 31), likewise with SPDUOutLength.
 struct whakelouna_request {
-    size_t length;
     uint8_t MCount;
     bool setSD;
     bool ChFAckReq;
@@ -143,53 +147,54 @@ uint8_t whakelouna_build_response_by(const uint16_t short_table[256], const uint
     struct whakelouna_params params, bool responded, uint8_t DCount_i, bool SDset, bool DCommErr, bool DTimeout,
     const uint8_t *process, size_t process_length, uint8_t *out, size_t out_length);
 
-// The SCL machines of 000 Tables 38 and 40, and what a call does: rows by 000's numbers, 0 for none; the check that failed first (0 none,
-// 1 signature, 2 port number, 3 count); the mark (0 fresh octets, 1 release goes on, 2 safe values).
-struct whakelouna_master {
+// The SCL machines of 000 Tables 38 and 40. `state` is 000's number of the state in which the machine waits: of the FS-Master 2 (for the first response), 5
+// (regular operation) or 7 (after a fault, for the acknowledgement), of the FS-Device 21 (for the first SPDU), 24 (regular operation) or 26 (after an error
+// or a timeout). What a call does: rows by 000's numbers, 0 for none; the check that failed first (0 none, 1 signature, 2 port number, 3 count); the mark
+// (0 fresh octets, 1 release goes on, 2 safe values). A machine is given the fields of an SPDU and judges no length: 10 is the bench's.
+struct whakelouna_fs_master {
+    uint32_t MTimer, sample;
+    uint16_t carried, awaited;
     uint8_t state, MCount;
-    bool setSD, SDset_S, ChFAckReq, ChFAckReq_S, ChFAck_C_e, setSD_C, ChFAck_C, previous;
-    uint8_t carried, awaited;
-    uint32_t MTimer;
-    bool runs;
-    uint32_t sample;
-    bool released;
+    bool setSD, SDset_S, ChFAckReq, ChFAckReq_S, ChFAck_C_e, setSD_C, ChFAck_C, previous, runs, released;
 };
 
-struct whakelouna_device {
-    uint8_t state, SDcycles, CommErrCount, TimeoutCount;
-    bool DCommErr, DTimeout, SDset, setSD_DC, ChFAckReq_DC;
-    uint8_t DCount_i, MCount;
+struct whakelouna_fs_device {
     uint32_t DTimer;
-    bool runs, released, responded;
+    uint16_t CommErrCount, TimeoutCount;
+    uint8_t state, SDcycles, DCount_i, MCount;
+    bool DCommErr, DTimeout, SDset, setSD_DC, ChFAckReq_DC, runs, released, responded;
 };
 
 struct whakelouna_master_outcome {
-    struct whakelouna_master master;
+    struct whakelouna_fs_master master;
     uint8_t watchdog, arrival, check;
     bool old, passed;
     uint8_t mark;
+    uint8_t unused[2];
 };
 
 struct whakelouna_device_outcome {
-    struct whakelouna_device device;
+    struct whakelouna_fs_device device;
     uint8_t watchdog, arrival, check;
     bool old, passed;
     uint8_t mark;
+    uint8_t unused[2];
 };
 
 uint32_t whakelouna_elapsed(uint32_t now, uint32_t since);
-struct whakelouna_master whakelouna_master_first(uint32_t at);
-struct whakelouna_master_outcome whakelouna_master_response(struct whakelouna_master master, uint16_t w, uint32_t at, struct whakelouna_response response);
-struct whakelouna_master_outcome whakelouna_master_clock(struct whakelouna_master master, uint16_t w, uint32_t at);
-struct whakelouna_master_outcome whakelouna_master_operator(struct whakelouna_master master, uint16_t w, uint32_t at, bool setSD_C, bool ChFAck_C);
-struct whakelouna_device whakelouna_device_first(uint32_t at);
-struct whakelouna_device_outcome whakelouna_device_request(struct whakelouna_device device, uint16_t w, uint32_t at, struct whakelouna_request request);
-struct whakelouna_device_outcome whakelouna_device_clock(struct whakelouna_device device, uint16_t w, uint32_t at);
+struct whakelouna_fs_master whakelouna_master_first(uint32_t at);
+struct whakelouna_master_outcome whakelouna_master_response(struct whakelouna_fs_master master, uint16_t w, uint32_t at, struct whakelouna_response response);
+struct whakelouna_master_outcome whakelouna_master_clock(struct whakelouna_fs_master master, uint16_t w, uint32_t at);
+struct whakelouna_master_outcome whakelouna_master_operator(struct whakelouna_fs_master master, uint16_t w, uint32_t at, bool setSD_C, bool ChFAck_C);
+struct whakelouna_fs_device whakelouna_device_first(uint32_t at);
+struct whakelouna_device_outcome whakelouna_device_request(struct whakelouna_fs_device device, uint16_t w, uint32_t at, struct whakelouna_request request);
+struct whakelouna_device_outcome whakelouna_device_clock(struct whakelouna_fs_device device, uint16_t w, uint32_t at);
 
 // What only an accepted parameter block moves. `running`: parameters have been accepted.
 struct whakelouna_setting {
     struct whakelouna_params params;
     bool running;
+    uint8_t unused[7];
 };
 
 // All of a histogram but its bins.
@@ -202,8 +207,9 @@ struct whakelouna_totals {
 
 // What a happening moves, which is a response, a request, a clock reading or operator signals: both ends, and all of the histogram but its bins.
 struct whakelouna_live {
-    struct whakelouna_device device;
-    struct whakelouna_master master;
+    struct whakelouna_fs_device device;
+    struct whakelouna_fs_master master;
+    uint32_t unused;
     struct whakelouna_totals totals;
 };
 
@@ -226,6 +232,7 @@ struct whakelouna_bench {
 struct whakelouna_reply {
     uint8_t number, offset, master, device;
     bool master_releases, device_releases;
+    uint8_t unused[2];
 };
 
 // The bench after a call; a refusal leaves it as it was.
@@ -236,32 +243,37 @@ struct whakelouna_bench_told {
 
 // The lengths of an incoming image's parts, the SPDU first; zeros in a refusal.
 struct whakelouna_split_told {
-    uint8_t number;
     size_t spdu, other;
+    uint8_t number;
+    uint8_t unused[7];
 };
 
 // How many octets were handed on; 0 in a refusal.
 struct whakelouna_handed_told {
-    uint8_t number;
     size_t octets;
+    uint8_t number;
+    uint8_t unused[7];
 };
 
 // What a port shows beside the answer's number; in a refusal, what a port that never ran shows.
 struct whakelouna_bins_told {
-    uint8_t number;
     uint32_t bins[32];
     uint32_t total;
+    uint8_t number;
     bool frozen;
+    uint8_t unused[2];
 };
 
 struct whakelouna_master_told {
+    struct whakelouna_fs_master master;
     uint8_t number;
-    struct whakelouna_master master;
+    uint8_t unused[3];
 };
 
 struct whakelouna_device_told {
+    struct whakelouna_fs_device device;
     uint8_t number;
-    struct whakelouna_device device;
+    uint8_t unused[3];
 };
 
 // A bench on which no port runs.
@@ -303,7 +315,7 @@ struct whakelouna_handed_told whakelouna_handed_on(struct whakelouna_bench bench
     const uint8_t *spdu, size_t spdu_length, const uint8_t *safe, size_t safe_length, uint8_t *out, size_t out_length);
 
 // What a port shows.
-struct whakelouna_trend whakelouna_trend(struct whakelouna_bench bench, uint8_t port);
+struct whakelouna_trend_told whakelouna_trend(struct whakelouna_bench bench, uint8_t port);
 struct whakelouna_bins_told whakelouna_bins(struct whakelouna_bench bench, uint8_t port);
 struct whakelouna_master_told whakelouna_master(struct whakelouna_bench bench, uint8_t port);
 struct whakelouna_device_told whakelouna_device(struct whakelouna_bench bench, uint8_t port);
@@ -320,6 +332,7 @@ struct whakelouna_fed_told {
     struct whakelouna_state state;
     size_t used, written;
     uint8_t stop;
+    uint8_t unused[7];
 };
 
 // A session before its first record.

@@ -7,7 +7,7 @@ use crate::model::histogram::Point;
 use crate::model::machines::{DeviceModel, MasterModel};
 
 /// In the order of 000 Table 22.
-pub fn numbers(params: &Params) -> [u32; 25] {
+pub fn numbers(params: &Params) -> [u32; 26] {
     [
         params.port_mode.into(),
         params.validation_backup.into(),
@@ -24,6 +24,7 @@ pub fn numbers(params: &Params) -> [u32; 25] {
         params.fsp_prot_mode.into(),
         params.fsp_watchdog_time.into(),
         params.fsp_tech_par_crc,
+        params.io_desc_version.into(),
         params.spdu_in_length.into(),
         params.total_of_in_bits.into(),
         params.total_of_in_octets.into(),

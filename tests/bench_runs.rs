@@ -279,6 +279,7 @@ impl Runs<'_> {
             device: 3,
             master_releases: false,
             device_releases: false,
+            unused: [0; 2],
         };
         for told in [
             library::receive_response(&bench, port, self.at, &response, &safe_in),

@@ -6,9 +6,9 @@
 #[repr(C)]
 #[derive(Clone, Copy, Debug, PartialEq)]
 pub struct Histogram {
+    pub sum: u64,
     pub bins: [u32; 32],
     pub total: u32,
-    pub sum: u64,
     pub lowest: u16,
     pub highest: u16,
 }
@@ -25,8 +25,9 @@ pub struct TrendPoint {
 #[repr(C)]
 #[derive(Clone, Copy, Debug)]
 pub struct Trend {
-    pub number: u8,
     pub point: TrendPoint,
+    pub number: u8,
+    pub unused: [u8; 7],
 }
 
 // Rattle's `&[u8]` is a pointer and a length here; a reference to an array is a pointer alone.
@@ -200,36 +201,38 @@ extern "C" {
 
 #[repr(C)]
 pub struct BlockAnswer {
+    pub params: Params,
     pub number: u8,
     pub offset: u8,
-    pub params: Params,
+    pub unused: [u8; 2],
 }
 
 /// The elements of 000 Table 22 that an accepted block hands on.
 #[repr(C)]
 #[derive(Clone, Copy, Debug, Default, PartialEq)]
 pub struct Params {
+    pub device_id: u32,
+    pub fscp_authenticity1: u32,
+    pub fscp_authenticity2: u32,
+    pub fsp_tech_par_crc: u32,
+    pub vendor_id: u16,
+    pub fsp_watchdog_time: u16,
     pub port_mode: u8,
     pub validation_backup: u8,
     pub iq_behavior: u8,
     pub port_cycle_time: u8,
-    pub vendor_id: u16,
-    pub device_id: u32,
     pub input_data_length: u8,
     pub output_data_length: u8,
-    pub fscp_authenticity1: u32,
-    pub fscp_authenticity2: u32,
     pub fsp_port: u8,
     pub fsp_prot_version: u8,
     pub fsp_prot_mode: u8,
-    pub fsp_watchdog_time: u16,
-    pub fsp_tech_par_crc: u32,
+    pub io_desc_version: u8,
     pub spdu_in_length: u8,
+    pub spdu_out_length: u8,
     pub total_of_in_bits: u8,
     pub total_of_in_octets: u8,
     pub total_of_in_int16: u8,
     pub total_of_in_int32: u8,
-    pub spdu_out_length: u8,
     pub total_of_out_bits: u8,
     pub total_of_out_octets: u8,
     pub total_of_out_int16: u8,
@@ -240,7 +243,6 @@ pub struct Params {
 #[repr(C)]
 #[derive(Clone, Copy)]
 pub struct Request {
-    pub length: usize,
     pub mcount: u8,
     pub set_sd: bool,
     pub chf_ack_req: bool,
@@ -253,7 +255,6 @@ pub struct Request {
 #[repr(C)]
 #[derive(Clone, Copy)]
 pub struct Response {
-    pub length: usize,
     pub dcount_i: u8,
     pub sd_set: bool,
     pub dcomm_err: bool,
@@ -267,6 +268,10 @@ pub struct Response {
 #[derive(Clone, Copy, Debug, PartialEq)]
 #[allow(non_snake_case)]
 pub struct Master {
+    pub MTimer: u32,
+    pub sample: u32,
+    pub carried: u16,
+    pub awaited: u16,
     pub state: u8,
     pub MCount: u8,
     pub setSD: bool,
@@ -277,11 +282,7 @@ pub struct Master {
     pub setSD_C: bool,
     pub ChFAck_C: bool,
     pub previous: bool,
-    pub carried: u8,
-    pub awaited: u8,
-    pub MTimer: u32,
     pub runs: bool,
-    pub sample: u32,
     pub released: bool,
 }
 
@@ -289,18 +290,18 @@ pub struct Master {
 #[derive(Clone, Copy, Debug, PartialEq)]
 #[allow(non_snake_case)]
 pub struct Device {
+    pub DTimer: u32,
+    pub CommErrCount: u16,
+    pub TimeoutCount: u16,
     pub state: u8,
     pub SDcycles: u8,
-    pub CommErrCount: u8,
-    pub TimeoutCount: u8,
+    pub DCount_i: u8,
+    pub MCount: u8,
     pub DCommErr: bool,
     pub DTimeout: bool,
     pub SDset: bool,
     pub setSD_DC: bool,
     pub ChFAckReq_DC: bool,
-    pub DCount_i: u8,
-    pub MCount: u8,
-    pub DTimer: u32,
     pub runs: bool,
     pub released: bool,
     pub responded: bool,
@@ -316,6 +317,7 @@ pub struct MasterOutcome {
     pub old: bool,
     pub passed: bool,
     pub mark: u8,
+    pub unused: [u8; 2],
 }
 
 #[repr(C)]
@@ -328,6 +330,7 @@ pub struct DeviceOutcome {
     pub old: bool,
     pub passed: bool,
     pub mark: u8,
+    pub unused: [u8; 2],
 }
 
 /// What only an accepted block moves.
@@ -336,6 +339,7 @@ pub struct DeviceOutcome {
 pub struct Setting {
     pub params: Params,
     pub running: bool,
+    pub unused: [u8; 7],
 }
 
 /// All of a histogram but its bins.
@@ -354,6 +358,7 @@ pub struct Totals {
 pub struct Live {
     pub device: Device,
     pub master: Master,
+    pub unused: u32,
     pub totals: Totals,
 }
 
@@ -383,6 +388,7 @@ pub struct ReplyTold {
     pub device: u8,
     pub master_releases: bool,
     pub device_releases: bool,
+    pub unused: [u8; 2],
 }
 
 #[repr(C)]
@@ -396,39 +402,44 @@ pub struct BenchTold {
 #[repr(C)]
 #[derive(Clone, Copy, Debug, PartialEq)]
 pub struct SplitTold {
-    pub number: u8,
     pub spdu: usize,
     pub other: usize,
+    pub number: u8,
+    pub unused: [u8; 7],
 }
 
 #[repr(C)]
 #[derive(Clone, Copy, Debug, PartialEq)]
 pub struct HandedTold {
-    pub number: u8,
     pub octets: usize,
+    pub number: u8,
+    pub unused: [u8; 7],
 }
 
 #[repr(C)]
 #[derive(Clone, Copy, Debug, PartialEq)]
 pub struct BinsTold {
-    pub number: u8,
     pub bins: [u32; 32],
     pub total: u32,
+    pub number: u8,
     pub frozen: bool,
+    pub unused: [u8; 2],
 }
 
 #[repr(C)]
 #[derive(Clone, Copy, Debug, PartialEq)]
 pub struct MasterTold {
-    pub number: u8,
     pub master: Master,
+    pub number: u8,
+    pub unused: [u8; 3],
 }
 
 #[repr(C)]
 #[derive(Clone, Copy, Debug, PartialEq)]
 pub struct DeviceTold {
-    pub number: u8,
     pub device: Device,
+    pub number: u8,
+    pub unused: [u8; 3],
 }
 
 /// How far a session has come.
@@ -448,6 +459,7 @@ pub struct FedTold {
     pub used: usize,
     pub written: usize,
     pub stop: u8,
+    pub unused: [u8; 7],
 }
 
 // No exported function asks anything of the values it is given, so each call below needs only

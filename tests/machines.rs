@@ -21,7 +21,6 @@ const HAPPENINGS: usize = 60;
 
 fn response(received: &Received) -> Response {
     Response {
-        length: 8,
         dcount_i: received.count,
         sd_set: received.bits[0],
         dcomm_err: received.bits[1],
@@ -34,7 +33,6 @@ fn response(received: &Received) -> Response {
 
 fn request(received: &Received) -> Request {
     Request {
-        length: 8,
         mcount: received.count,
         set_sd: received.bits[0],
         chf_ack_req: received.bits[1],

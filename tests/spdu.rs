@@ -41,6 +41,7 @@ fn parameters(random: &mut Random, format: &Format) -> Params {
         fsp_prot_mode: format.mode,
         fsp_watchdog_time: random.number() as u16,
         fsp_tech_par_crc: random.number() as u32,
+        io_desc_version: random.octet(),
         spdu_in_length: response,
         total_of_in_bits: random.octet(),
         total_of_in_octets: random.octet(),
@@ -59,7 +60,6 @@ fn library_read(tables: &Tables, direction: Direction, params: Params, spdu: &[u
         Direction::Request => {
             let read = tables.read_request(params, spdu);
             Fields {
-                length: read.length,
                 count: read.mcount,
                 marks: [false, read.set_sd, read.chf_ack_req],
                 port_holds: read.port_holds,
@@ -70,7 +70,6 @@ fn library_read(tables: &Tables, direction: Direction, params: Params, spdu: &[u
         Direction::Response => {
             let read = tables.read_response(params, spdu);
             Fields {
-                length: read.length,
                 count: read.dcount_i,
                 marks: [read.sd_set, read.dcomm_err, read.dtimeout],
                 port_holds: read.port_holds,

@@ -11,7 +11,8 @@ const PAGES: usize = 1 << 30;
 const BLOCKS: usize = 20;
 const RUNNING: u8 = 3;
 
-/// The mark for safe values.
+/// The marks for process octets of the SPDU and for safe values.
+const FRESH: u8 = 0;
 const SAFE: u8 = 2;
 
 extern "C" {
@@ -191,14 +192,14 @@ impl Unread<'_> {
         for length in wrong(incoming.spdu) {
             let read = tables.read_response(self.params, self.octets(length));
             let marks = [read.port_holds, read.signature_holds, read.all_zero];
-            self.comparisons.compare((length, [false; 3]), (read.length, marks), || {
+            self.comparisons.compare([false; 3], marks, || {
                 format!("the fields of a response of {length} octets")
             });
         }
         for length in wrong(outgoing.spdu) {
             let read = tables.read_request(self.params, self.octets(length));
             let marks = [read.port_holds, read.signature_holds, read.all_zero];
-            self.comparisons.compare((length, [false; 3]), (read.length, marks), || {
+            self.comparisons.compare([false; 3], marks, || {
                 format!("the fields of a request of {length} octets")
             });
         }
@@ -255,12 +256,22 @@ impl Unread<'_> {
         }
     }
 
-    /// More than the buffer has room for.
+    /// Safe values by their mark, and process octets of an SPDU by theirs.
     fn handed_on(&mut self, incoming: &Way) {
-        let (spdu, safe) = (self.octets(incoming.spdu), self.octets(PAGES));
-        self.numbers("safe values handed on", 7, |bench, port| {
-            let mut out = vec![0; incoming.process];
-            library::handed_on(bench, port, SAFE, spdu, safe, &mut out).number
-        });
+        let (zeros, spdu) = (vec![0; incoming.process], self.octets(incoming.spdu));
+        for length in wrong(incoming.process) {
+            let safe = self.octets(length);
+            self.numbers("safe values handed on", 7, |bench, port| {
+                let mut out = vec![0; incoming.process];
+                library::handed_on(bench, port, false, SAFE, spdu, safe, &mut out).number
+            });
+        }
+        for length in wrong(incoming.spdu) {
+            let spdu = self.octets(length);
+            self.numbers("an SPDU handed on", 10, |bench, port| {
+                let mut out = vec![0; incoming.process];
+                library::handed_on(bench, port, false, FRESH, spdu, &zeros, &mut out).number
+            });
+        }
     }
 }

@@ -12,8 +12,8 @@ const P: usize = 7;
 const FSP_PORT: usize = 10;
 const PROT_MODE: usize = 12;
 const W: usize = 13;
-const M: usize = 15;
-const O: usize = 20;
+const M: usize = 16;
+const O: usize = 21;
 
 const NO_PORT: u8 = 8;
 const NOT_RUNNING: u8 = 9;
@@ -43,7 +43,7 @@ impl Reply {
 #[derive(Clone, Debug, PartialEq)]
 pub struct Shown {
     pub running: bool,
-    pub parameters: [u32; 25],
+    pub parameters: [u32; 26],
     pub master: MasterModel,
     pub device: DeviceModel,
     pub bins: [u64; 32],
@@ -56,7 +56,7 @@ pub struct Shown {
 /// A port with accepted parameters.
 #[derive(Clone, Debug)]
 pub struct Running {
-    parameters: [u32; 25],
+    parameters: [u32; 26],
     master: MasterModel,
     device: DeviceModel,
     /// The reading of the call in which MCount last took another value, or of the block.
@@ -67,7 +67,7 @@ pub struct Running {
 }
 
 impl Running {
-    fn after_block(parameters: [u32; 25], at: u32) -> Running {
+    fn after_block(parameters: [u32; 26], at: u32) -> Running {
         Running {
             parameters,
             master: MasterModel::after_block(at),
@@ -198,7 +198,7 @@ impl Running {
 }
 
 fn never_ran() -> Shown {
-    Shown { running: false, ..Running::after_block([0; 25], 0).shown() }
+    Shown { running: false, ..Running::after_block([0; 26], 0).shown() }
 }
 
 fn read(format: &Format, spdu: &[u8]) -> Received {

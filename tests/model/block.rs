@@ -6,7 +6,7 @@ use super::signature::SHORT;
 pub const LENGTH: usize = 48;
 
 /// The elements that a taken block hands on: offset and number of octets.
-const PARAMETERS: [(usize, usize); 25] = [
+const PARAMETERS: [(usize, usize); 26] = [
     (2, 1),  // PortMode
     (3, 1),  // Validation&Backup
     (4, 1),  // I/Q behavior
@@ -22,6 +22,7 @@ const PARAMETERS: [(usize, usize); 25] = [
     (26, 1), // FSP_ProtMode
     (27, 2), // FSP_WatchdogTime
     (31, 4), // FSP_TechParCRC
+    (37, 1), // IO_DescVersion
     (38, 1), // SPDUInLength
     (39, 1), // TotalOfInBits
     (40, 1), // TotalOfInOctets
@@ -50,13 +51,13 @@ const ORDER: [u8; 8] = [8, 1, 2, 3, 4, 5, 12, 6];
 pub struct Answer {
     pub number: u8,
     pub offset: usize,
-    pub parameters: [u32; 25],
+    pub parameters: [u32; 26],
 }
 
 pub fn judge(octets: &[u8], port: u8) -> Answer {
     for number in ORDER {
         if let Some(offset) = condition(number, octets, port) {
-            return Answer { number, offset, parameters: [0; 25] };
+            return Answer { number, offset, parameters: [0; 26] };
         }
     }
     let parameters = PARAMETERS.map(|(offset, count)| element(octets, offset, count));

@@ -61,7 +61,7 @@ pub struct MasterModel {
     pub set_sd_c: bool,
     pub ack_c: bool,
     /// The count that the previous response carried, and the count awaited of it.
-    pub previous: Option<(u8, u8)>,
+    pub previous: Option<(u16, u16)>,
     pub timer: Option<u32>,
     pub sample: u32,
     pub uses_pd: bool,
@@ -174,7 +174,7 @@ impl MasterModel {
             return quiet;
         }
         let expected = received.count == mirror(self.m_count);
-        let old = self.previous.map_or(false, |(a, b)| received.count == a || received.count == b);
+        let old = self.previous.map_or(false, |(a, b)| [a, b].contains(&received.count.into()));
         let entry = match self.state {
             2 if expected => 3,
             5 if !old => 6,
@@ -184,7 +184,7 @@ impl MasterModel {
         };
         let awaited = mirror(self.m_count);
         self.transition(entry, at, false);
-        self.previous = Some((received.count, awaited));
+        self.previous = Some((received.count.into(), awaited.into()));
         let [sd_set, d_comm_err, d_timeout] = received.bits;
         let check = first_failed(received, expected);
         let faults = check != 0 || d_comm_err || d_timeout;
@@ -206,8 +206,8 @@ impl MasterModel {
 pub struct DeviceModel {
     pub state: u8,
     pub sd_cycles: u8,
-    pub comm_err_count: u8,
-    pub timeout_count: u8,
+    pub comm_err_count: u16,
+    pub timeout_count: u16,
     pub d_comm_err: bool,
     pub d_timeout: bool,
     pub sd_set: bool,

@@ -8,8 +8,8 @@
 typedef struct whakelouna_bench bench_t;
 typedef struct whakelouna_port port_t;
 typedef struct whakelouna_params params_t;
-typedef struct whakelouna_master master_t;
-typedef struct whakelouna_device device_t;
+typedef struct whakelouna_fs_master master_t;
+typedef struct whakelouna_fs_device device_t;
 typedef struct whakelouna_totals totals_t;
 typedef struct whakelouna_reply reply_t;
 
@@ -161,7 +161,7 @@ void reference_new_bench(bench_t *bench)
 
 static reply_t silent(uint8_t number, uint8_t offset)
 {
-    return (reply_t) { number, offset, NOTHING, NOTHING, false, false };
+    return (reply_t) { .number = number, .offset = offset, .master = NOTHING, .device = NOTHING };
 }
 
 reply_t reference_set_parameters(bench_t *bench, uint8_t port, uint32_t at, const uint8_t *octets, size_t length)
@@ -458,7 +458,10 @@ static void judge(port_t *p, uint32_t at)
 
 static reply_t replied(const port_t *p, uint8_t master, uint8_t device)
 {
-    return (reply_t) { TAKEN, 0, master, device, p->live.master.released, p->live.device.released };
+    return (reply_t) {
+        .number = TAKEN, .master = master, .device = device,
+        .master_releases = p->live.master.released, .device_releases = p->live.device.released
+    };
 }
 
 reply_t reference_receive_response(bench_t *bench, uint8_t port, uint32_t at, const uint8_t *spdu, size_t length, const uint8_t *safe, size_t safe_length)
@@ -568,16 +571,16 @@ struct whakelouna_split_told reference_split(const bench_t *bench, uint8_t port,
     (void)octets;
     uint8_t answer = call_answer(bench, port);
     if (answer != TAKEN)
-        return (struct whakelouna_split_told) { answer, 0, 0 };
+        return (struct whakelouna_split_told) { .number = answer };
     const params_t *params = &bench->ports[port - 1].setting.params;
     if (length != (size_t)params->SPDUInLength + params->InputDataLength)
-        return (struct whakelouna_split_told) { BUFFER, 0, 0 };
-    return (struct whakelouna_split_told) { TAKEN, params->SPDUInLength, params->InputDataLength };
+        return (struct whakelouna_split_told) { .number = BUFFER };
+    return (struct whakelouna_split_told) { .spdu = params->SPDUInLength, .other = params->InputDataLength };
 }
 
-struct whakelouna_trend reference_trend(const bench_t *bench, uint8_t port)
+struct whakelouna_trend_told reference_trend(const bench_t *bench, uint8_t port)
 {
-    struct whakelouna_trend trend = { call_answer(bench, port), { 0, 0, 0 } };
+    struct whakelouna_trend_told trend = { .number = call_answer(bench, port) };
     if (trend.number != TAKEN)
         return trend;
     const totals_t *totals = &bench->ports[port - 1].live.totals;
@@ -606,11 +609,11 @@ struct whakelouna_bins_told reference_bins(const bench_t *bench, uint8_t port)
 struct whakelouna_master_told reference_master(const bench_t *bench, uint8_t port)
 {
     uint8_t answer = call_answer(bench, port);
-    return (struct whakelouna_master_told) { answer, answer == TAKEN ? bench->ports[port - 1].live.master : first_master(0) };
+    return (struct whakelouna_master_told) { .number = answer, .master = answer == TAKEN ? bench->ports[port - 1].live.master : first_master(0) };
 }
 
 struct whakelouna_device_told reference_device(const bench_t *bench, uint8_t port)
 {
     uint8_t answer = call_answer(bench, port);
-    return (struct whakelouna_device_told) { answer, answer == TAKEN ? bench->ports[port - 1].live.device : first_device(0) };
+    return (struct whakelouna_device_told) { .number = answer, .device = answer == TAKEN ? bench->ports[port - 1].live.device : first_device(0) };
 }

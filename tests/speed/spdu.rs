@@ -43,21 +43,20 @@ fn spdus(random: &mut Random, n: u8, mode: u8) -> Vec<u8> {
 }
 
 /// The fields as one number.
-fn told(length: usize, count: u8, marks: [bool; 6]) -> u64 {
-    let fields = (length as u64) << 8 | u64::from(count);
-    marks.into_iter().fold(fields, |fields, mark| fields << 1 | u64::from(mark))
+fn told(count: u8, marks: [bool; 6]) -> u64 {
+    marks.into_iter().fold(count.into(), |fields, mark| fields << 1 | u64::from(mark))
 }
 
 fn response_told(read: Response) -> u64 {
     let Response { sd_set, dcomm_err, dtimeout, port_holds, signature_holds, all_zero, .. } = read;
     let marks = [sd_set, dcomm_err, dtimeout, port_holds, signature_holds, all_zero];
-    told(read.length, read.dcount_i, marks)
+    told(read.dcount_i, marks)
 }
 
 fn request_told(read: Request) -> u64 {
     let Request { set_sd, chf_ack_req, port_holds, signature_holds, all_zero, .. } = read;
     let marks = [false, set_sd, chf_ack_req, port_holds, signature_holds, all_zero];
-    told(read.length, read.mcount, marks)
+    told(read.mcount, marks)
 }
 
 /// Each SPDU in a call of its own; a sum over what was read.

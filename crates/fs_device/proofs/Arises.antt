@@ -28,7 +28,6 @@ use Rattle.fs_device.proofs.Moved as moving
 -- an SPDU with this MCount and setSD, whose signature and port number hold or not
 abbrev request : ℕ → Bool → Bool → Bool → Request
 request count setSD signature port = record {
-  length = 5;
   MCount = count;
   setSD = setSD;
   ChFAckReq = false;
@@ -47,11 +46,10 @@ abbrev set : ℕ → Request
 set count = request count true true true
 
 abbrev zeros : Request
-zeros = record { length = 5; MCount = 0; setSD = false; ChFAckReq = false; «port_holds» = false; «signature_holds» = false; «all_zero» = true }
+zeros = record { MCount = 0; setSD = false; ChFAckReq = false; «port_holds» = false; «signature_holds» = false; «all_zero» = true }
 
 abbrev response : ℕ → Happening
 response at = happening.Response at (record {
-  length = 5;
   «DCount_i» = 7;
   SDset = false;
   DCommErr = false;

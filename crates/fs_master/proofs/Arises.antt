@@ -36,7 +36,6 @@ use Rattle.fs_master.proofs.Regulars as regulars
 -- a response of this DCount_i, with SDset, and whether port and signature hold
 abbrev response : ℕ → Bool → Bool → Bool → Response
 response count SDset port signature = record {
-  length = 5;
   «DCount_i» = count;
   SDset = SDset;
   DCommErr = false;
@@ -60,7 +59,6 @@ damaged count = response count false true false
 
 abbrev zeros : Response
 zeros = record {
-  length = 5;
   «DCount_i» = 0;
   SDset = false;
   DCommErr = false;
@@ -71,7 +69,7 @@ zeros = record {
 }
 
 abbrev request : Request
-request = record { length = 5; MCount = 1; setSD = false; ChFAckReq = false; «port_holds» = true; «signature_holds» = true; «all_zero» = false }
+request = record { MCount = 1; setSD = false; ChFAckReq = false; «port_holds» = true; «signature_holds» = true; «all_zero» = false }
 
 -- a call: the rows of the watchdog and of the response, the check that failed, whether it passed and was old, what is handed on, the fault after it
 pub record Line : Type 0 where

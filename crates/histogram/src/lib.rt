@@ -175,7 +175,7 @@ pub fn counted(h: Histogram, w: u16, t: u16) -> Histogram
     with_bins(totals, bins)
 }
 
-// Two exact conversions and one division.
+// Two conversions, which lose nothing where the numbers are those of samples (proofs/Trends.antt), and one division.
 fn mean(sum: u64, total: u64) -> f64
     ensures { λ r. ⌜ r ≡ meanOf sum total ⌝ }
 {

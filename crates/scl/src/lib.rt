@@ -7,7 +7,6 @@ ghost use Rattle.scl.specs.Happenings.{readingOf, markNumberOf, checkNum
 // What an FS-Master reads of a received SPDU (000 Table 32).
 #[repr(C)]
 pub struct Response {
-    pub length: usize,
     pub DCount_i: u8,
     pub SDset: bool,
     pub DCommErr: bool,
@@ -20,7 +19,6 @@ pub struct Response {
 // What an FS-Device reads of a received SPDU (000 Table 31).
 #[repr(C)]
 pub struct Request {
-    pub length: usize,
     pub MCount: u8,
     pub setSD: bool,
     pub ChFAckReq: bool,

@@ -33,10 +33,10 @@ p = paramsOf good
 abbrev sent : ℕ → List ℕ
 sent control = spduWith byBits 1 (0x2A ∷ []) 1 control
 
-pub request-back-met : requestBy byBits p (sent (controlOctet 3 true false)) ≡ requestBack p 3 true false
+pub request-back-met : requestBy byBits p (sent (controlOctet 3 true false)) ≡ requestBack 3 true false
 request-back-met = request-back p (0x2A ∷ []) 3 true false refl
 
-pub response-back-met : responseBy byBits p (sent (statusOctet 4 true false true)) ≡ responseBack p 4 true false true
+pub response-back-met : responseBy byBits p (sent (statusOctet 4 true false true)) ≡ responseBack 4 true false true
 response-back-met = response-back p (0x2A ∷ []) 4 true false true refl
 
 -- a signature of 16 bits fits its octets

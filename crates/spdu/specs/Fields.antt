@@ -35,7 +35,6 @@ responseFields sign p s =
     let mode = p .«FSP_ProtMode» in
     let status = controlOf mode s in
     record {
-      length = length s;
       «DCount_i» = countIn status;
       SDset = bit2 status;
       DCommErr = bit1 status;
@@ -45,12 +44,11 @@ responseFields sign p s =
       «all_zero» = allZero s;
     }
 
--- of an SPDU of SPDUInLength octets; of another length: its length, count 0, every mark false
+-- of an SPDU of SPDUInLength octets; of another length: count 0, every mark false
 abbrev pub responseBy : (ℕ → List ℕ → ℕ) → Params → List ℕ → Response
 responseBy sign p s =
     cond (eqb (length s) (p .SPDUInLength)) (responseFields sign p s)
     (record {
-      length = length s;
       «DCount_i» = 0;
       SDset = false;
       DCommErr = false;
@@ -66,7 +64,6 @@ requestFields sign p s =
     let mode = p .«FSP_ProtMode» in
     let control = controlOf mode s in
     record {
-      length = length s;
       MCount = countIn control;
       setSD = bit1 control;
       ChFAckReq = bit0 control;
@@ -80,7 +77,6 @@ abbrev pub requestBy : (ℕ → List ℕ → ℕ) → Params → List ℕ → Re
 requestBy sign p s =
     cond (eqb (length s) (p .SPDUOutLength)) (requestFields sign p s)
     (record {
-      length = length s;
       MCount = 0;
       setSD = false;
       ChFAckReq = false;

@@ -7,9 +7,8 @@ use Rattle.block.specs.declared.Params.{Params}
 use Rattle.scl.specs.declared.Request.{Request}
 use Rattle.scl.specs.declared.Response.{Response}
 
-abbrev pub requestBack : Params → ℕ → Bool → Bool → Request
-requestBack p mCount setSD chFAckReq = record {
-  length = p .SPDUOutLength;
+abbrev pub requestBack : ℕ → Bool → Bool → Request
+requestBack mCount setSD chFAckReq = record {
   MCount = mCount % 8;
   setSD = setSD;
   ChFAckReq = chFAckReq;
@@ -18,9 +17,8 @@ requestBack p mCount setSD chFAckReq = record {
   «all_zero» = false;
 }
 
-abbrev pub responseBack : Params → ℕ → Bool → Bool → Bool → Response
-responseBack p «DCount_i» sdSet dCommErr dTimeout = record {
-  length = p .SPDUInLength;
+abbrev pub responseBack : ℕ → Bool → Bool → Bool → Response
+responseBack «DCount_i» sdSet dCommErr dTimeout = record {
   «DCount_i» = «DCount_i» % 8;
   SDset = sdSet;
   DCommErr = dCommErr;
@@ -33,7 +31,6 @@ responseBack p «DCount_i» sdSet dCommErr dTimeout = record {
 -- no signature is 0, so that of zeros does not hold
 abbrev pub zerosBack : Params → Response
 zerosBack p = record {
-  length = p .SPDUInLength;
   «DCount_i» = 0;
   SDset = false;
   DCommErr = false;

@@ -72,7 +72,6 @@ fn shown(name: &[u8], at: u32, ends: Ends) {
 // What the FS-Master sends, damaged or not.
 fn request(m: Master, damaged: bool) -> Request {
     Request {
-        length: 8,
         MCount: m.MCount,
         setSD: m.setSD,
         ChFAckReq: m.ChFAckReq,
@@ -85,7 +84,6 @@ fn request(m: Master, damaged: bool) -> Request {
 // What the FS-Device answers, damaged or not: zeros until it has prepared a response.
 fn response(d: Device, damaged: bool) -> Response {
     Response {
-        length: 8,
         DCount_i: d.DCount_i,
         SDset: d.SDset,
         DCommErr: d.DCommErr,
