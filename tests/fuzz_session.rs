@@ -1,6 +1,6 @@
-// A session program against the model: random sessions, damaged in random ways, by standard input. The program has to print what the
-// model prints, end by itself within a time, and with status 0.
-// Arguments: the program, which may be several words; how many sessions; the seed, or none.
+// A session program against the model, by standard input: a long session of the longest records, then random ones, damaged in random
+// ways. The program has to print what the model prints, end by itself within a time, and with status 0.
+// Arguments: the program, which may be several words; how many random sessions; the seed, or none.
 
 mod good_blocks;
 #[path = "../tools/lines/mod.rs"]
@@ -11,10 +11,10 @@ mod random_sessions;
 
 use model::session::printed;
 use random::Random;
-use random_sessions::{damage, long_session, session};
+use random_sessions::{damage, full_records, long_session, session};
 use std::fs::File;
 use std::io::Write;
-use std::process::{exit, Child, Command, Stdio};
+use std::process::{exit, Child, ChildStdin, Command, Stdio};
 use std::time::{Duration, Instant};
 
 const TIME: Duration = Duration::from_secs(20);
@@ -34,20 +34,40 @@ fn main() {
     println!("fuzz_session: seed {seed}");
     let mut random = Random::from_seed(number(seed));
     let count = number(count);
-    let (mut made, mut differences) = (0, 0);
-    while made < count && differences < SHOWN_DIFFERENCES {
-        made += 1;
+    let mut compared = Compared { program, sessions: 0, differences: 0 };
+    let full = full_records(&mut random);
+    compared.one(&full, slowly(&full));
+    compared.one(&full, Way::File);
+    for _ in 0..count {
         let session = damaged_session(&mut random);
-        let found = run(program, &session, &mut random);
-        let expected = Ok(printed(&session));
-        if found != expected {
-            differences += 1;
-            report(made, &session, &expected, &found);
-        }
+        let way = any_way(&session, &mut random);
+        compared.one(&session, way);
     }
-    println!("fuzz_session: {made} sessions, {differences} differ");
-    if differences > 0 || made == 0 {
+    let Compared { sessions, differences, .. } = compared;
+    println!("fuzz_session: {sessions} sessions, {differences} differ");
+    if differences > 0 {
         exit(1);
+    }
+}
+
+struct Compared<'a> {
+    program: &'a str,
+    sessions: u64,
+    differences: usize,
+}
+
+impl Compared<'_> {
+    fn one(&mut self, session: &[u8], way: Way) {
+        if self.differences == SHOWN_DIFFERENCES {
+            return;
+        }
+        self.sessions += 1;
+        let found = run(self.program, session, way);
+        let expected = Ok(printed(session));
+        if found != expected {
+            self.differences += 1;
+            report(self.sessions, session, &expected, &found);
+        }
     }
 }
 
@@ -76,13 +96,34 @@ fn damaged_session(random: &mut Random) -> Vec<u8> {
     session
 }
 
-/// What the program prints; or why there is no such text. The session is a file, or comes through a pipe in pieces, so that a
-/// record can arrive in parts.
-fn run(program: &str, session: &[u8], random: &mut Random) -> Result<String, String> {
+/// How a program gets a session: as a file, or through a pipe in pieces with a pause before each, so that a record can arrive in parts.
+enum Way {
+    File,
+    Pipe { pieces: Vec<Vec<u8>>, pause: Duration },
+}
+
+fn any_way(session: &[u8], random: &mut Random) -> Way {
+    if random.flag() {
+        Way::Pipe { pieces: pieces(session, random), pause: Duration::ZERO }
+    } else {
+        Way::File
+    }
+}
+
+/// No piece is a whole number of the longest records; the pause lets a read bring one piece.
+fn slowly(session: &[u8]) -> Way {
+    let pieces = session.chunks(601).map(<[u8]>::to_vec).collect();
+    Way::Pipe { pieces, pause: Duration::from_millis(1) }
+}
+
+/// What the program prints; or why there is no such text.
+fn run(program: &str, session: &[u8], way: Way) -> Result<String, String> {
     let (input, output) = (format!("{DIRECTORY}/input"), format!("{DIRECTORY}/output"));
     std::fs::write(&input, session).expect("the session's file");
-    let piped = random.flag();
-    let stdin = if piped { Stdio::piped() } else { File::open(&input).unwrap().into() };
+    let stdin = match way {
+        Way::File => File::open(&input).unwrap().into(),
+        Way::Pipe { .. } => Stdio::piped(),
+    };
     let mut words = program.split_whitespace();
     let mut child = Command::new(words.next().unwrap_or_else(|| stop("no program is named")))
         .args(words)
@@ -90,13 +131,7 @@ fn run(program: &str, session: &[u8], random: &mut Random) -> Result<String, Str
         .stdout(File::create(&output).expect("the output's file"))
         .spawn()
         .unwrap_or_else(|error| stop(&format!("{program}: {error}")));
-    let writer = child.stdin.take().map(|mut pipe| {
-        let pieces = pieces(session, random);
-        std::thread::spawn(move || {
-            // A program that has read a malformed record need not read on.
-            let _ = pieces.iter().try_for_each(|piece| pipe.write_all(piece));
-        })
-    });
+    let writer = child.stdin.take().map(|pipe| std::thread::spawn(move || write(pipe, way)));
     let ended = wait(&mut child);
     if let Some(writer) = writer {
         writer.join().expect("the pipe's writer");
@@ -104,6 +139,15 @@ fn run(program: &str, session: &[u8], random: &mut Random) -> Result<String, Str
     ended?;
     let text = std::fs::read(&output).expect("the output's file");
     String::from_utf8(text).map_err(|_| "the output is not text".to_string())
+}
+
+fn write(mut pipe: ChildStdin, way: Way) {
+    let Way::Pipe { pieces, pause } = way else { return };
+    // A program that has read a malformed record need not read on.
+    let _ = pieces.iter().try_for_each(|piece| {
+        std::thread::sleep(pause);
+        pipe.write_all(piece)
+    });
 }
 
 fn pieces(session: &[u8], random: &mut Random) -> Vec<Vec<u8>> {

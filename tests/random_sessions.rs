@@ -34,6 +34,18 @@ pub fn long_session(random: &mut Random) -> Vec<u8> {
     octets
 }
 
+/// A session of the longest records, longer than a program's buffer need be: behind some that set ports up, parameter blocks and SPDUs.
+pub fn full_records(random: &mut Random) -> Vec<u8> {
+    let mut octets = session(random, 40);
+    for _ in 0..300 {
+        let kind = 1 + random.below(2) as u8;
+        let port = 1 + random.below(8) as u8;
+        let at = random.number() as u32;
+        octets.extend(record(kind, port, at, &random.octets(255)));
+    }
+    octets
+}
+
 struct Writer<'a> {
     random: &'a mut Random,
     /// The ports that most records are for.

@@ -7,20 +7,40 @@ use mathlib.Core.List.{List, [], _++_}
 use lib.Dec.{eqb, ltb}
 use lib.IntN.{ℤ, pos, negsuc}
 use lib.Signed.{ltZ}
-use lib.ListN.{length, take, drop, length-take}
+use lib.ListN.{length, take, drop}
 use lib.Seq.{take-append-seam, take-add}
 use borrow.Author.Tests.{ltb-true, lt-ltb, le-ltb, ne-eqb}
 use borrow.Rule.Slice.PartMut.{midOf, mid-len}
 use Rattle.libc.specs.Io.{Moved}
 use Rattle.io.specs.Counts.{clamped}
-use Rattle.record.specs.Format.{form}
+use Rattle.record.specs.Format.{form, mostOctets}
 use Rattle.session.specs.declared.State.{State}
 use Rattle.session.specs.Run.{Entry, isWhole, start, ran, printed, closing, closingRoom, finishText, fronted}
 use Rattle.session.proofs.Blocks.{Reads, reads-of, extended, joined, fewer, all-of, ran-append}
 use Rattle.portbench.specs.declared.Block.{Block}
-use Rattle.portbench.specs.declared.Going.{Going}
-use Rattle.portbench.specs.declared.Going.the-variants.{On, Over}
-use Rattle.portbench.specs.Kept.{recordsIn, leftOf, stopped, blockOf, Taken, unwritten, taken, Brought, unread, none, some, Read, read, Ran, ended}
+use Rattle.portbench.specs.declared.Going.the-variants.{On, Over, Stopped}
+use Rattle.portbench.specs.Kept.{
+  recordsIn,
+  leftOf,
+  stopped,
+  blockOf,
+  Taken,
+  unwritten,
+  taken,
+  Brought,
+  unread,
+  none,
+  some,
+  Read,
+  read,
+  first,
+  After,
+  none-yet,
+  one-more,
+  mostReads,
+  Closed,
+  Ran,
+}
 
 -- ---- What `read` answered, which the machine reads back from its bits as got′
 
@@ -57,21 +77,19 @@ module _ {last r : Block} {buf buf′ : List ℕ} where
 -- ---- One read after the other
 
 -- Up to this block, these octets have been read.
-pub record Session (last : Block) : Type 0 where
+record Session (last : Block) : Type 0 where
   pub octets : List ℕ
   pub state : last .state ≡ ran start (recordsIn octets)
   pub left : last .left ≡ length (leftOf octets)
 
--- and what is left of them is at the front of the buffer
-pub record Carried (last : Block) (buf : List ℕ) : Type 0 where
+-- and what is left of them is at the front of the buffer, with room behind it
+record Carried (last : Block) (buf : List ℕ) : Type 0 where
   pub session : Session last
   pub kept : take (last .left) buf ≡ leftOf (session .octets)
+  pub short : last .going ≡ On → last .left < mostOctets
 
-pub first : (last : Block) (buf : List ℕ) → last ≡ record { state = start; left = 0; going = On } → Carried last buf
-first last buf e = rw e (record { session = record { octets = []; state = refl; left = refl }; kept = refl })
-
-pub fits : {last : Block} {buf : List ℕ} → Carried last buf → last .left ≤ length buf
-fits {last} {buf} k = omega (arith, ap length (k .kept), length-take (last .left) buf, k .session .left)
+nothing-read : (buf : List ℕ) → Carried first buf
+nothing-read buf = record { session = record { octets = []; state = refl; left = refl }; kept = refl; short = λ g. omega arith }
 
 -- octets behind a session's are those behind what is left of it
 grown : (s t : List ℕ) → isWhole (form (leftOf (leftOf s ++ t))) ≡ false
@@ -86,8 +104,8 @@ goes e = ap (λ (x : Block). x .going) e
 
 module _ {last r : Block} {buf buf′ : List ℕ} (k : Carried last buf) where
   longer : (t : List ℕ) → r ≡ blockOf (last .state) (take (last .left) buf ++ t) → isWhole (form (leftOf (take (last .left) buf ++ t))) ≡ false
-      → take (r .left) buf′ ≡ leftOf (take (last .left) buf ++ t) → Carried r buf′
-  longer t e w b =
+      → take (r .left) buf′ ≡ leftOf (take (last .left) buf ++ t) → (r .going ≡ On → r .left < mostOctets) → Carried r buf′
+  longer t e w b l =
       let octets = k .session .octets in
       let rest = leftOf octets in
       let e′ : r ≡ blockOf (last .state) (rest ++ t) = rw (k .kept) at e in
@@ -102,37 +120,96 @@ module _ {last r : Block} {buf buf′ : List ℕ} (k : Carried last buf) where
           left = ap (λ (x : Block). x .left) e′ ∙ ap length (sym (g .1));
         };
         kept = rw (k .kept) at b ∙ sym (g .1);
+        short = l;
       }
 
   -- the octets of a read
   brought : (n : ℕ) (now : List ℕ) → take (last .left) now ≡ take (last .left) buf → r ≡ blockOf (last .state) (take (last .left + n) now)
-      → isWhole (form (leftOf (take (last .left + n) now))) ≡ false → take (r .left) buf′ ≡ leftOf (take (last .left + n) now) → Carried r buf′
-  brought n now e f w b =
+      → isWhole (form (leftOf (take (last .left + n) now))) ≡ false → take (r .left) buf′ ≡ leftOf (take (last .left + n) now)
+      → (r .going ≡ On → r .left < mostOctets) → Carried r buf′
+  brought n now e f w b l =
       let split : take (last .left + n) now ≡ take (last .left) buf ++ take n (drop (last .left) now) = rw (take-add (last .left) n now, e) in
-      longer (take n (drop (last .left) now)) (rw split at f) (rw split at w) (rw split at b)
+      longer (take n (drop (last .left) now)) (rw split at f) (rw split at w) (rw split at b) l
 
-  pub next : Read last (take (last .left) buf) r buf′ → r .going ≡ On → Carried r buf′
-  next (read got now e (unread m z f)) g = let z : _≡_ {A = ℕ} 0 1 = cc (goes f) in absurd (omega arith)
-  next (read got now e (none z f)) g = let z : _≡_ {A = ℕ} 0 1 = cc (goes f) in absurd (omega arith)
-  next (read got now e (some n z (unwritten f))) g = let z : _≡_ {A = ℕ} 0 1 = cc (goes f) in absurd (omega arith)
-  next (read got now e (some n z (taken f w b))) g = brought (suc n) now e f w b
+  next : Read last (take (last .left) buf) r buf′ → r .going ≡ On → Carried r buf′
+  next (read got now h e (unread m z f)) g = let z : _≡_ {A = ℕ} 0 1 = cc (goes f) in absurd (omega arith)
+  next (read got now h e (none z f)) g = let z : _≡_ {A = ℕ} 0 1 = cc (goes f) in absurd (omega arith)
+  next (read got now h e (some n z (unwritten f))) g = let z : _≡_ {A = ℕ} 0 1 = cc (goes f) in absurd (omega arith)
+  next (read got now h e (some n z (taken f w b l))) g = brought (suc n) now e f w b l
 
-  pub over : Read last (take (last .left) buf) r buf′ → r .going ≡ Over → Session r
-  over (read got now e (unread m z f)) g = let z : _≡_ {A = ℕ} 0 1 = cc (goes f) in absurd (omega arith)
-  over (read got now e (none z f)) g = rw f (record { octets = k .session .octets; state = k .session .state; left = k .session .left })
-  over (read got now e (some n z (unwritten f))) g = let z : _≡_ {A = ℕ} 0 1 = cc (goes f) in absurd (omega arith)
-  over (read got now e (some n z (taken f w b))) g = brought (suc n) now e f w b .session
+  over : Read last (take (last .left) buf) r buf′ → r .going ≡ Over → Session r
+  over (read got now h e (unread m z f)) g = let z : _≡_ {A = ℕ} 0 1 = cc (goes f) in absurd (omega arith)
+  over (read got now h e (none z f)) g = rw f (record { octets = k .session .octets; state = k .session .state; left = k .session .left })
+  over (read got now h e (some n z (unwritten f))) g = let z : _≡_ {A = ℕ} 0 1 = cc (goes f) in absurd (omega arith)
+  over (read got now h e (some n z (taken f w b l))) g = brought (suc n) now e f w b l .session
+
+-- ---- All reads
+
+carried : {n : ℕ} {last : Block} {buf : List ℕ} → After n last buf → last .going ≡ On → Carried last buf
+carried (none-yet {buf}) g = nothing-read buf
+carried (one-more a h r) g = next (carried a h) r g
+
+pub short : {n : ℕ} {last : Block} {buf : List ℕ} → After n last buf → last .going ≡ On → last .left < mostOctets
+short a g = carried a g .short g
+
+-- so many turns are left of the most
+pub record Turned (turns : ℕ) (last : Block) (buf : List ℕ) : Type 0 where
+  pub reads : ℕ
+  pub after : After reads last buf
+  pub going : last .going ≡ On
+  pub count : reads + turns ≡ mostReads
+
+pub begin : (turns : ℕ) (last : Block) (buf : List ℕ) → last ≡ first → turns ≡ mostReads → Turned turns last buf
+begin turns last buf e h = rw e (record { reads = 0; after = none-yet; going = refl; count = omega arith })
+
+module _ {turns : ℕ} {last r : Block} {buf buf′ : List ℕ} (t : Turned turns last buf) (b : Read last (take (last .left) buf) r buf′) where
+  pub again : (turns′ : ℕ) → turns′ + 1 ≡ turns → r .going ≡ On → Turned turns′ r buf′
+  again turns′ h g = record { reads = suc (t .reads); after = one-more (t .after) (t .going) b; going = g; count = omega (arith, t .count) }
+
+  pub failed : r .going ≡ Stopped → (out : List ℕ) → Ran r buf′ out
+  failed g out =
+      record {
+        reads = suc (t .reads);
+        after = one-more (t .after) (t .going) b;
+        most = λ o. let z : _≡_ {A = ℕ} 0 1 = cc in absurd (omega arith);
+        closed = λ o. let z : _≡_ {A = ℕ} 0 1 = cc in absurd (omega arith);
+      }
+
+pub unended : {turns : ℕ} {last : Block} {buf : List ℕ} → Turned turns last buf → turns ≡ 0 → (out : List ℕ) → Ran last buf out
+unended t h out =
+    record {
+      reads = t .reads;
+      after = t .after;
+      most = λ o. omega (arith, t .count);
+      closed = λ o. let z : _≡_ {A = ℕ} 0 1 = cc (t .going) in absurd (omega arith);
+    }
 
 some-left : (n : ℕ) → not (eqb n 0) ≡ ltb 0 n
 some-left zero = refl
 some-left (suc n) = rw (ne-eqb (suc n) 0 (λ e. omega arith), lt-ltb 0 (suc n) (omega arith))
 
 -- what `finish` writes is the end of what is printed
-pub closes : {last : Block} → Session last → (out out′ : List ℕ) → closingRoom ≤ length out
-    → out′ ≡ fronted (finishText (last .state) (ltb 0 (last .left)) (length out)) out → {r : Going} → r ≡ Over → Ran r out′
+closes : {last : Block} → Session last → (out out′ : List ℕ) → closingRoom ≤ length out
+    → out′ ≡ fronted (finishText (last .state) (ltb 0 (last .left)) (length out)) out → Closed last out′
 unfolding finishText printed
-closes {last} s out out′ h e g =
+closes {last} s out out′ h e =
     let text = closing (last .state) (ltb 0 (last .left)) in
     let front : out′ ≡ fronted text out = rw (le-ltb (length out) closingRoom h) at e in
-    ended g (s .octets) text (rw (s .state, s .left, ← some-left (length (leftOf (s .octets)))) refl)
-    (rw front (take-append-seam text (drop (length text) out)))
+    record {
+      session = s .octets;
+      state = s .state;
+      left = s .left;
+      text = text;
+      end = rw (s .state, s .left, ← some-left (length (leftOf (s .octets)))) refl;
+      front = rw front (take-append-seam text (drop (length text) out));
+    }
+
+pub ended : {turns : ℕ} {last r : Block} {buf buf′ : List ℕ} → Turned turns last buf → Read last (take (last .left) buf) r buf′ → r .going ≡ Over
+    → (out out′ : List ℕ) → closingRoom ≤ length out → out′ ≡ fronted (finishText (r .state) (ltb 0 (r .left)) (length out)) out → Ran r buf′ out′
+ended t b g out out′ h e =
+    record {
+      reads = suc (t .reads);
+      after = one-more (t .after) (t .going) b;
+      most = λ o. let z : _≡_ {A = ℕ} 0 1 = cc in absurd (omega arith);
+      closed = λ o. closes (over (carried (t .after) (t .going)) b g) out out′ h e;
+    }

@@ -4,9 +4,10 @@ use native.Mathlib.Omega.{arith}
 use mathlib.Core.Path.{_≡_, refl, sym, ap, _∙_}
 use mathlib.Core.Bool.{false}
 use mathlib.Core.List.{List, [], _++_}
-use lib.ListN.{length, take, drop}
-use lib.Seq.{length-take-le, slice, length-slice, take-add, take-at, drop-at, drop-drop}
-use Rattle.record.specs.Format.{Form, nothing, part, bad, whole, form}
+use lib.ListN.{length, take, drop, getD}
+use lib.Seq.{length-take-le, slice, length-slice, take-add, take-at, drop-at, drop-drop, getD-take, getD-drop}
+use Rattle.record.specs.Format.{Form, nothing, part, bad, whole, form, lengthOf, headOctets, mostOctets}
+use Rattle.record.proofs.Form.{part-short, nothing-none}
 use Rattle.session.specs.declared.State.{State}
 use Rattle.session.specs.declared.Stop.{Stop}
 use Rattle.session.specs.declared.Stop.the-variants.{Full, Bad, Cut, End}
@@ -14,6 +15,7 @@ use Rattle.session.specs.declared.Fed.{Fed}
 use Rattle.session.specs.Run.{Entry, isWhole, recordsOf, restOf, ran, lineRoom, stopOf, fedOf}
 use Rattle.session.proofs.Blocks.{Reads, here, reads-of, joined, fewer, all-of, ran-append, rest-unused, full-used}
 use Rattle.portbench.specs.declared.Block.{Block}
+use Rattle.portbench.specs.declared.Going.the-variants.{On}
 use Rattle.portbench.specs.Kept.{toFront, goingOn, blockOf, Taken, taken}
 
 -- the form of what stands where a call of `feed` stopped
@@ -42,12 +44,13 @@ pub record Way (st : State) (to : ℕ) (buf₀ buf : List ℕ) (st′ : State) (
   pub same : buf ≡ buf₀
   pub fits : to ≤ length buf
   pub within : from ≤ to
+  pub octets : (k : ℕ) → getD buf k 0 < 256
   pub records : List Entry
   pub reads : Reads (take to buf) records (slice from to buf)
   pub state : ran st records ≡ st′
 
-pub begin : (st : State) (to : ℕ) (buf : List ℕ) → to ≤ length buf → Way st to buf buf st 0
-begin st to buf h = record { same = refl; fits = h; within = omega arith; records = []; reads = here; state = refl }
+pub begin : (st : State) (to : ℕ) (buf : List ℕ) → to ≤ length buf → ((k : ℕ) → getD buf k 0 < 256) → Way st to buf buf st 0
+begin st to buf h o = record { same = refl; fits = h; within = omega arith; octets = o; records = []; reads = here; state = refl }
 
 module _ {st : State} {to : ℕ} {buf₀ buf : List ℕ} {st′ : State} {from : ℕ} (w : Way st to buf₀ buf st′ from) where
   here-are : take (to - from) (drop from buf) ≡ slice from to buf
@@ -56,17 +59,31 @@ module _ {st : State} {to : ℕ} {buf₀ buf : List ℕ} {st′ : State} {from :
   size : length (slice from to buf) ≡ to - from
   size = length-slice from to buf (w .fits)
 
+  length-octet : headOctets ≤ length (slice from to buf) → lengthOf (slice from to buf) < 256
+  length-octet h =
+      let e : lengthOf (slice from to buf) ≡ getD buf (from + 8) 0 =
+      getD-drop from (take to buf) 8 0 ∙ getD-take to buf (from + 8) 0 (omega (arith, size)) in
+      omega (arith, w .octets (from + 8))
+
+  -- where there is more to read, what is left is no record
+  short : (f : Form) → form (slice from to buf) ≡ f → isWhole f ≡ false → goingOn f ≡ On → to - from < mostOctets
+  short nothing e n g = omega (arith, size, nothing-none (slice from to buf) e)
+  short part e n g = omega (arith, size, part-short (slice from to buf) length-octet e)
+  short bad e n g = let z : _≡_ {A = ℕ} 0 1 = cc in absurd (omega arith)
+  short whole e n g = let z : _≡_ {A = ℕ} 0 1 = cc in absurd (omega arith)
+
   -- where no whole record stands, all are taken
   done : {f : Form} → form (slice from to buf) ≡ f → isWhole f ≡ false → {r : Block} → r ≡ record { state = st′; left = to - from; going = goingOn f }
       → (buf′ : List ℕ) → buf′ ≡ toFront from (to - from) buf → Taken st (take to buf₀) r buf′
-  done {f} e none hr buf′ hb =
+  done {f} e none {r} hr buf′ hb =
       let s = take to buf in
       let last : isWhole (form (slice from to buf)) ≡ false = ap isWhole e ∙ none in
       let all = all-of (length s) (w .reads) last (fewer (w .reads)) in
       let block : blockOf st s ≡ record { state = st′; left = to - from; going = goingOn f } = rw (all .0, all .1, w .state, e, size) in
       let front : take (to - from) (toFront from (to - from) buf) ≡ slice from to buf =
       take-at (take (to - from) (drop from buf)) (drop (to - from) buf) (to - from) (ap length here-are ∙ size) ∙ here-are in
-      rw (← w .same) (taken (hr ∙ sym block) (rw (all .1) last) (rw (hr, hb, all .1) front))
+      let room : r .going ≡ On → r .left < mostOctets = λ g. rw hr (short f e none (rw hr at g)) in
+      rw (← w .same) (taken (hr ∙ sym block) (rw (all .1) last) (rw (hr, hb, all .1) front) room)
 
 -- a call of `feed`
 module _ {st : State} {to : ℕ} {buf₀ buf : List ℕ} {st′ : State} {from : ℕ} (w : Way st to buf₀ buf st′ from) (room : ℕ) (fed : Fed)
@@ -94,6 +111,7 @@ module _ {st : State} {to : ℕ} {buf₀ buf : List ℕ} {st′ : State} {from :
         same = w .same;
         fits = w .fits;
         within = omega (arith, size w, w .within);
+        octets = w .octets;
         records = w .records ++ rs;
         reads = rw behind (joined (w .reads) (reads-of n (slice from to buf)));
         state = ran-append st (w .records) rs ∙ ap (λ (s : State). ran s rs) (w .state) ∙ ap (λ (f : Fed). f .state) (sym called);

@@ -1,11 +1,11 @@
 -- 01, "The session program": what `portbench` makes of the octets that it reads, block by block, and what it keeps of them. Assumes nothing.
-use Prim.Native.Nat.{ℕ, suc, _+_}
+use Prim.Native.Nat.{ℕ, suc, _+_, _<_}
 use mathlib.Core.Path.{_≡_}
 use mathlib.Core.Bool.{false}
 use mathlib.Core.List.{List, _++_}
 use lib.IntN.{ℤ, pos, negsuc}
 use lib.ListN.{length, take, drop}
-use Rattle.record.specs.Format.{Form, nothing, part, bad, whole, form}
+use Rattle.record.specs.Format.{Form, nothing, part, bad, whole, form, mostOctets}
 use Rattle.session.specs.declared.State.{State}
 use Rattle.session.specs.Run.{Entry, isWhole, recordsOf, restOf, start, ran, told, printed}
 use Rattle.portbench.specs.declared.Block.{Block}
@@ -39,10 +39,11 @@ blockOf st s = record { state = ran st (recordsIn s); left = length (leftOf s); 
 abbrev pub stopped : State → Block
 stopped st = record { state = st; left = 0; going = Stopped }
 
--- The answer r after the octets s, and the buffer, which has what is left of them at its front. No contract says whether a write failed.
+-- The answer r after the octets s, and the buffer, which has what is left of them at its front: where there is more to read, less than a record
+-- can have. No contract says whether a write failed.
 pub data Taken (st : State) (s : List ℕ) (r : Block) (buf : List ℕ) : Type 0 where
   unwritten : r ≡ stopped st → Taken st s r buf
-  taken : r ≡ blockOf st s → isWhole (form (leftOf s)) ≡ false → take (r .left) buf ≡ leftOf s → Taken st s r buf
+  taken : r ≡ blockOf st s → isWhole (form (leftOf s)) ≡ false → take (r .left) buf ≡ leftOf s → (r .going ≡ On → r .left < mostOctets) → Taken st s r buf
 
 -- The same after what `read` answered, with its octets behind those that are left from the last block. None are the end of the input.
 pub data Brought (last : Block) (got : ℤ) (buf : List ℕ) (r : Block) (buf′ : List ℕ) : Type 0 where
@@ -50,12 +51,35 @@ pub data Brought (last : Block) (got : ℤ) (buf : List ℕ) (r : Block) (buf′
   none : got ≡ pos 0 → r ≡ record { state = last .state; left = last .left; going = Over } → Brought last got buf r buf′
   some : (n : ℕ) → got ≡ pos (suc n) → Taken (last .state) (take (last .left + suc n) buf) r buf′ → Brought last got buf r buf′
 
--- The same after a read. No contract says what it answered and which octets it brought; those that were kept are left.
+-- The same after a read that had room for an octet. No contract says what it answered and which octets it brought; those that were kept are left.
 pub data Read (last : Block) (kept : List ℕ) (r : Block) (buf′ : List ℕ) : Type 0 where
-  read : (got : ℤ) (buf : List ℕ) → take (last .left) buf ≡ kept → Brought last got buf r buf′ → Read last kept r buf′
+  read : (got : ℤ) (buf : List ℕ) → last .left < length buf → take (last .left) buf ≡ kept → Brought last got buf r buf′ → Read last kept r buf′
 
--- After all reads: where a session s has ended, the buffer for text has at its front what is printed of s behind the lines of its records.
-pub data Ran (r : Going) (out : List ℕ) : Type 0 where
-  unended : r ≡ On → Ran r out
-  failed : r ≡ Stopped → Ran r out
-  ended : r ≡ Over → (s text : List ℕ) → printed s ≡ told start (recordsIn s) ++ text → take (length text) out ≡ text → Ran r out
+-- before the first read
+abbrev pub first : Block
+first = record { state = start; left = 0; going = On }
+
+-- n reads, one after the other: the last one's block, and the buffer after it. A block that does not go on is the last.
+pub data After : ℕ → Block → List ℕ → Type 0 where
+  none-yet : {buf : List ℕ} → After 0 first buf
+  one-more : {n : ℕ} {last r : Block} {buf buf′ : List ℕ} → After n last buf → last .going ≡ On → Read last (take (last .left) buf) r buf′ → After (suc n) r buf′
+
+-- the loop has to end: so many reads and no more, and no input takes as many
+abbrev pub mostReads : ℕ
+mostReads = 18446744073709551615
+
+-- Some session leads to the last block, and what is printed of it behind the lines of its records is at the front of the buffer for text.
+pub record Closed (last : Block) (out : List ℕ) : Type 0 where
+  pub session : List ℕ
+  pub state : last .state ≡ ran start (recordsIn session)
+  pub left : last .left ≡ length (leftOf session)
+  pub text : List ℕ
+  pub end : printed session ≡ told start (recordsIn session) ++ text
+  pub front : take (length text) out ≡ text
+
+-- After all reads, r the block of the last of them. There is more to read only after the most; where the session has ended, its end is written.
+pub record Ran (r : Block) (buf out : List ℕ) : Type 0 where
+  pub reads : ℕ
+  pub after : After reads r buf
+  pub most : r .going ≡ On → reads ≡ mostReads
+  pub closed : r .going ≡ Over → Closed r out

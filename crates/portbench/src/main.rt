@@ -1,12 +1,13 @@
 // Reads a session from standard input, in blocks, and prints what it comes to (document 01, "The session program"). What is right is in the
-// contracts of `session`; here it is proved that no step goes wrong, that the program ends, what each block comes to and what is kept of it, and
-// what `finish` makes of the last.
+// contracts of `session`; here it is proved that no step goes wrong, that the program ends, that each read has room, what each block comes to and
+// what is kept of it, that reading goes on as long as it may, and what `finish` makes of the last block.
 ghost use mathlib.Core.Path.{_≡_};
-ghost use Prim.Native.Nat.{_-_, _≤_};
+ghost use Prim.Native.Nat.{_-_, _<_, _≤_};
 ghost use lib.Dec.{ltb};
 ghost use lib.ListN.{length, take};
 ghost use Rattle.libc.specs.Io.{Moved};
 ghost use Rattle.portbench.specs.Kept as kept;
+ghost use Rattle.record.specs.Format.{mostOctets};
 ghost use Rattle.session.specs.Run as runs;
 use libc::STDERR_FILENO;
 use libc::STDIN_FILENO;
@@ -92,9 +93,9 @@ fn take_records(st: State, buf: &mut [u8], to: usize, out: &mut [u8]) -> Block
     }
 }
 
-// What `read` answered after it put octets behind those that are left from the last block.
+// What `read` answered after it put octets behind those that are left from the last block. There was room for one, so none are the end.
 fn take_read(last: Block, buf: &mut [u8], got: isize, out: &mut [u8]) -> Block
-    requires { ⌜ last .left ≤ length (now buf) ⌝ }
+    requires { ⌜ last .left < length (now buf) ⌝ }
     requires { ⌜ Moved (length (now buf) - last .left) got ⌝ }
     requires { ⌜ runs.lineRoom ≤ length (now out) ⌝ }
     ensures { λ r. ⌜ kept.Brought last got (now (buf .entry)) r (now (buf .exit)) ⌝ }
@@ -114,7 +115,7 @@ fn take_read(last: Block, buf: &mut [u8], got: isize, out: &mut [u8]) -> Block
 
 // One read, behind the octets that are left from the last.
 fn read_block(last: Block, buf: &mut [u8], out: &mut [u8]) -> Block
-    requires { ⌜ last .left ≤ length (now buf) ⌝ }
+    requires { ⌜ last .left < length (now buf) ⌝ }
     requires { ⌜ runs.lineRoom ≤ length (now out) ⌝ }
     ensures { λ r. ⌜ kept.Read last (take (last .left) (now (buf .entry))) r (now (buf .exit)) ⌝ }
 {
@@ -131,10 +132,12 @@ fn finish(last: Block, out: &mut [u8])
     io::write_all(STDOUT_FILENO, &out[..n]);
 }
 
-// Nothing says that the input ends, and a loop has to: so it counts its turns down, from a number that no run uses up.
-fn run(buf: &mut [u8], out: &mut [u8]) -> Going
+// Nothing says that the input ends, and a loop has to: so it counts its turns down, from a number that no run uses up. The last block is
+// returned so that the contract can speak of it.
+fn run(buf: &mut [u8], out: &mut [u8]) -> Block
+    requires { ⌜ mostOctets ≤ length (now buf) ⌝ }
     requires { ⌜ runs.closingRoom ≤ length (now out) ⌝ }
-    ensures { λ r. ⌜ kept.Ran r (now (out .exit)) ⌝ }
+    ensures { λ r. ⌜ kept.Ran r (now (buf .exit)) (now (out .exit)) ⌝ }
 {
     let mut last = after(session::start(), 0, Going::On);
     let mut turns = u64::MAX;
@@ -146,14 +149,14 @@ fn run(buf: &mut [u8], out: &mut [u8]) -> Going
             Going::On => {}
             Going::Over => {
                 finish(last, out);
-                return Going::Over;
+                return last;
             }
             Going::Stopped => {
-                return Going::Stopped;
+                return last;
             }
         }
     }
-    Going::On
+    last
 }
 
 fn main() {

@@ -4,12 +4,12 @@ use mathlib.Core.Path.{_≡_, refl, sym, _∙_}
 use mathlib.Core.Bool.{Bool, true, false, cond, not}
 use mathlib.Core.List.{List, _++_}
 use mathlib.Core.Logic.{⊎-elim, inl, inr, _⊎_}
-use borrow.Author.Tests.{eqb-true, ltb-false, ne-eqb, le-ltb, not-true, not-false}
+use borrow.Author.Tests.{eqb-true, ltb-true, ltb-false, ne-eqb, le-ltb, not-true, not-false}
 use lib.Dec.{eqb, ltb}
 use lib.ListN.{length, length-append, List·getD-append}
 use native.Mathlib.Omega.{arith}
 use Rattle.scl.proofs.Cases.{and-right}
-use Rattle.record.specs.Format.{at, kindOf, portOf, clockOf, lengthOf, sizeOf, headOctets, markHolds, lengthIn, kinds, headHolds, octetHolds, Form, nothing, part, bad, whole, formBy, form, place}
+use Rattle.record.specs.Format.{at, kindOf, portOf, clockOf, lengthOf, sizeOf, mostOctets, headOctets, markHolds, lengthIn, kinds, headHolds, octetHolds, Form, nothing, part, bad, whole, formBy, form, place}
 use Rattle.record.specs.declared.Record.the-variants.{Whole, Bad, Cut, End}
 
 -- a record of kind 4 whose head holds has the length 1
@@ -94,6 +94,33 @@ tests-of s q = whole-tests (eqb (length s) 0) (ltb (length s) headOctets) (headH
 
 pub whole-fits : (s : List ℕ) → form s ≡ whole → sizeOf s ≤ length s
 whole-fits s q = ltb-false (length s) (sizeOf s) (tests-of s q .long)
+
+nothing-tests : (e n h l b : Bool) → formBy e n h l b ≡ nothing → e ≡ true
+nothing-tests true n h l b q = refl
+nothing-tests false true h l b q = cc
+nothing-tests false false false l b q = cc
+nothing-tests false false true true b q = cc
+nothing-tests false false true false false q = cc
+nothing-tests false false true false true q = cc
+
+pub nothing-none : (s : List ℕ) → form s ≡ nothing → length s ≡ 0
+nothing-none s q = eqb-true (length s) 0 (nothing-tests (eqb (length s) 0) (ltb (length s) headOctets) (headHolds s) (ltb (length s) (sizeOf s)) (octetHolds s) q)
+
+part-tests : (e n h l b : Bool) → formBy e n h l b ≡ part → (n ≡ true) ⊎ ((n ≡ false) × (l ≡ true))
+part-tests true n h l b q = inl cc
+part-tests false true h l b q = inl refl
+part-tests false false false l b q = inl cc
+part-tests false false true true b q = inr (refl, refl)
+part-tests false false true false false q = inl cc
+part-tests false false true false true q = inl cc
+
+-- where the octet that is its length is one, a record cut short has fewer octets than a record can have
+pub part-short : (s : List ℕ) → (headOctets ≤ length s → lengthOf s < 256) → form s ≡ part → length s < mostOctets
+part-short s octet q =
+    ⊎-elim
+    (λ w. omega (arith, ltb-true (length s) headOctets w))
+    (λ w. omega (arith, ltb-true (length s) (sizeOf s) (w .1), octet (ltb-false (length s) headOctets (w .0))))
+    (part-tests (eqb (length s) 0) (ltb (length s) headOctets) (headHolds s) (ltb (length s) (sizeOf s)) (octetHolds s) q)
 
 -- ---- More octets behind
 

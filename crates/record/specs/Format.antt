@@ -33,6 +33,10 @@ headOctets = 9
 abbrev pub sizeOf : List ℕ → ℕ
 sizeOf s = headOctets + lengthOf s
 
+-- no record has more: its length is one octet
+abbrev pub mostOctets : ℕ
+mostOctets = headOctets + 255
+
 abbrev pub octetsOf : List ℕ → List ℕ
 octetsOf s = take (lengthOf s) (drop headOctets s)
 

@@ -33,7 +33,7 @@ returns c =
     let rest = length buf - left in
     let r = c .before .before .before .before .before .before .before .before .before .read in
     let now = putMid left rest buf (r .last .1 .0) in
-    read _ now (take-put left rest buf (r .last .1 .0) (start .pre .0)) (c .before .before .before .before .take-read .ensures)
+    read _ now (omega arith) (take-put left rest buf (r .last .1 .0) (omega (arith, start .pre .0))) (c .before .before .before .before .take-read .ensures)
 
 pub read-block-spec : {M : Type 1} → statement M
 read-block-spec =

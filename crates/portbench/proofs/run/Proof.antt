@@ -5,39 +5,50 @@ use lib.ListN.{length}
 use borrow.Author.Needs.{needs}
 use Rattle.session.specs.declared.State.{State}
 use Rattle.portbench.specs.declared.Going.the-variants.{On}
-use Rattle.portbench.specs.Kept.{unended, failed}
-use Rattle.portbench.proofs.Reading.{Carried, first, fits, next, over, closes}
+use Rattle.portbench.proofs.Reading.{Turned, begin, short, again, unended, failed, ended}
 use Rattle.portbench.proofs.run.Statement.{statement}
 use Rattle.portbench.proofs.run.Tie as tie
 
 abbrev Inv-loop : tie.InvT-loop
-Inv-loop buf₀ out₀ last₀ turns₀ buf out last turns = (length buf ≡ length buf₀) × (length out ≡ length out₀) × Carried last buf
+Inv-loop buf₀ out₀ last₀ turns₀ buf out last turns = (length buf ≡ length buf₀) × (length out ≡ length out₀) × Turned turns last buf
 
 abbrev μ-loop : tie.MeasureT-loop
 μ-loop buf₀ out₀ last₀ turns₀ buf out last turns = turns
 
 loop-holds : tie.Need-loop-holds Inv-loop μ-loop
-loop-holds c = (refl, refl, first _ _ (c .after .ensures ∙ ap (λ (st : State). record { state = st; left = 0; going = On }) (c .before .start .ensures)))
+loop-holds c = (
+  refl,
+  refl,
+  begin _ _ _ (c .after .ensures ∙ ap (λ (st : State). record { state = st; left = 0; going = On }) (c .before .start .ensures)) (omega arith),
+)
 
 read-block-requires : tie.Need-read-block-requires Inv-loop μ-loop
-read-block-requires c κs = (fits (c .before .before .before .loop .inv .2), omega (arith, c .before .before .before .before .before .before .before .before .pre))
+read-block-requires c κs =
+    let t = c .before .before .before .loop .inv .2 in
+    let pre = c .before .before .before .before .before .before .before .before .pre in
+    (omega (arith, short (t .after) (t .going), pre .0), omega (arith, pre .1))
 
 loop-again : tie.Need-loop-again Inv-loop μ-loop
 loop-again c =
     let b = c .before .before .before .before .before .before .read-block in
-    (search needs, search needs, next (c .before .before .before .before .before .before .before .before .before .before .loop .inv .2) (b .ensures) (c .enum-told .given .1))
+    let l = c .before .before .before .before .before .before .before .before .before .before .loop in
+    (search needs, search needs, again (l .inv .2) (b .ensures) _ (omega arith) (c .enum-told .given .1))
 
 returns : tie.Need-returns Inv-loop μ-loop
 returns c =
     let b = c .before .before .before .before .before .before .before .before .before .before .read-block in
-    let session = over (c .before .before .before .before .before .before .before .before .before .before .before .before .before .before .loop .inv .2) (b .ensures) (c .before .before .before .before .enum-told2 .given .1) in
-    closes session (b .last .1 .1 .0) _ (omega (arith, c .before .before .before .before .before .before .before .before .before .before .before .before .before .before .before .before .before .before .before .pre)) (c .before .before .finish .ensures) refl
+    let l = c .before .before .before .before .before .before .before .before .before .before .before .before .before .before .loop in
+    let pre = c .before .before .before .before .before .before .before .before .before .before .before .before .before .before .before .before .before .before .before .pre in
+    ended (l .inv .2) (b .ensures) (c .before .before .before .before .enum-told2 .given .1) (b .last .1 .1 .0) _ (omega (arith, pre .1)) (c .before .before .finish .ensures)
 
 returns-2 : tie.Need-returns-2 Inv-loop μ-loop
-returns-2 c = failed refl
+returns-2 c =
+    let b = c .before .before .before .before .before .before .read-block in
+    let l = c .before .before .before .before .before .before .before .before .before .before .loop in
+    failed (l .inv .2) (b .ensures) (c .enum-told3 .given .1) _
 
 returns-3 : tie.Need-returns-3 Inv-loop μ-loop
-returns-3 c = unended refl
+returns-3 c = unended (c .before .loop .inv .2) (omega (arith, c .loop-test .left)) _
 
 pub run-spec : {M : Type 1} → statement M
 run-spec =

@@ -16,7 +16,7 @@ abbrev μ-loop : tie.MeasureT-loop
 μ-loop st buf₀ to out₀ state₀ from₀ buf out state from = to - from
 
 loop-holds : tie.Need-loop-holds Inv-loop μ-loop
-loop-holds c = (refl, refl, begin _ _ _ (omega arith))
+loop-holds c = (refl, refl, begin _ _ _ (omega arith) (λ k. omega (arith, c .before .slice-known .given k)))
 
 returns : tie.Need-returns Inv-loop μ-loop
 returns c = unwritten (c .after .ensures)
