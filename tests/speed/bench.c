@@ -127,6 +127,7 @@ static params_t params_of(const uint8_t *b)
         .FSP_ProtMode = b[26],
         .FSP_WatchdogTime = (uint16_t)number(b + 27, 2),
         .FSP_TechParCRC = number(b + 31, 4),
+        .IO_DescVersion = b[37],
         .SPDUInLength = b[38],
         .TotalOfInBits = b[39],
         .TotalOfInOctets = b[40],
