@@ -139,7 +139,6 @@ fn split() {
 fn response_read() {
     let spdu = RESPONSE_16;
     let r = spdu::read_response(params(1, 7), &spdu);
-    compared(b"response read, length", r.length as u64, 7);
     compared(b"response read, DCount_i", r.DCount_i as u64, 2);
     compared(b"response read, SDset", r.SDset as u64, 1);
     compared(b"response read, DCommErr", r.DCommErr as u64, 0);
@@ -156,7 +155,6 @@ fn response_read() {
 fn request_read() {
     let spdu = REQUEST_32;
     let r = spdu::read_request(params(2, 9), &spdu);
-    compared(b"request read, length", r.length as u64, 9);
     compared(b"request read, MCount", r.MCount as u64, 5);
     compared(b"request read, setSD", r.setSD as u64, 0);
     compared(b"request read, ChFAckReq", r.ChFAckReq as u64, 1);
