@@ -1,6 +1,6 @@
 -- One history of an FS-Device, worked out: every row, every check and every mark but that of a refusal arises, and at calls of it the premises of the
 -- theorems are met. Assumes nothing.
-use Prim.Native.Nat.{ℕ, zero, suc, _<_}
+use Prim.Native.Nat.{_≤_, ℕ, zero, suc, _<_}
 use native.Mathlib.Omega.{arith}
 use mathlib.Core.Path.{_≡_, refl}
 use mathlib.Core.Bool.{Bool, true, false}
@@ -20,9 +20,11 @@ use Rattle.fs_device.specs.declared.Row.{Row}
 use Rattle.fs_device.specs.declared.Row.the-variants.{Stay, T22, T25, T28, T29, T30, T31}
 use Rattle.fs_device.specs.Table40.{watchdogRow, isTaken, checked, arrivalRow, taken, t22, t25, t28, t29, t30t31, acted}
 use Rattle.fs_device.specs.Calls.{judged, quiet, arrived, received, watched, stepOf, stands}
-use Rattle.fs_device.specs.History.{FreshBy, deviceAfter, passedSince, hadErrorOrTimeout, movedDevice, movedOutcome}
+use Rattle.fs_device.specs.History.{FreshBy, deviceAfter, passedSince, hadErrorOrTimeout, movedDevice, movedOutcome, lastTakenAt}
 use Rattle.fs_device.proofs.Release as release
 use Rattle.fs_device.proofs.Faults as faults
+use Rattle.fs_device.proofs.Watchdog as watchdog
+use Rattle.fs_device.proofs.Reports as reports
 use Rattle.fs_device.proofs.Moved as moving
 
 -- an SPDU with this MCount and setSD, whose signature and port number hold or not
@@ -136,6 +138,11 @@ pub record Met : Type 0 where
   pub discarded-zeros : stepOf (deviceBefore 1) 100 (happening.Request 4294967295 zeros) .device ≡ judged (deviceBefore 1) 100 4294967295
   pub discarded-old : stepOf (deviceBefore 3) 100 (happening.Request 14 (set 0)) .device ≡ judged (deviceBefore 3) 100 14
   pub damaged-safe : let o = stepOf (deviceBefore 10) 100 (happening.Request 164 (damaged 6)) in (o .mark ≡ Safe) × (o .device .released ≡ false)
+  pub late : deviceBefore 19 .released ≡ false
+  pub released-in-time : elapsedOf 144 (lastTakenAt block 100 (pastBefore 8)) ≤ 100
+  pub released-sound : (deviceBefore 7 .SDset ≡ false) × ((deviceBefore 7 .DCommErr ≡ false) × (deviceBefore 7 .DTimeout ≡ false))
+  pub error-told : deviceBefore 11 .DCommErr ≡ true
+  pub timeout-told : deviceBefore 19 .DTimeout ≡ true
 
 pub met : Met
 unfolding worked upTo deviceAfter hadErrorOrTimeout stands stepOf watched received arrived quiet judged acted watchdogRow isTaken checked arrivalRow taken t22 t25 t28 t29 t30t31 elapsedOf
@@ -153,4 +160,9 @@ met = record {
   discarded-zeros = faults.discarded (deviceBefore 1) 100 4294967295 zeros refl;
   discarded-old = faults.discarded (deviceBefore 3) 100 14 (set 0) refl;
   damaged-safe = faults.damaged-safe (deviceBefore 10) 100 164 (damaged 6) refl refl refl refl;
+  late = watchdog.late block 100 (pastBefore 18) (happening.Operator 335 true false) refl (omega arith);
+  released-in-time = watchdog.released-in-time block 100 (pastBefore 7) beside (omega arith) refl;
+  released-sound = reports.released-sound block 100 (pastBefore 7) refl;
+  error-told = reports.error-told (deviceBefore 10) 100 164 (damaged 6) refl;
+  timeout-told = reports.timeout-told (deviceBefore 18) 100 (happening.Operator 335 true false) refl;
 }

@@ -80,6 +80,28 @@ unfoldable pub lastTaken : ℕ → ℕ → List Happening → ℕ
 lastTaken at w [] = 0
 lastTaken at w (h ∷ past) = takenBy (judged (deviceAfter at w past) w (readingOf h)) h (lastTaken at w past)
 
+-- a row acts, and restarts DTimer
+abbrev pub acts : Row → Bool
+acts Stay = false
+acts T22 = true
+acts T25 = true
+acts T28 = true
+acts T29 = true
+acts T30 = true
+acts T31 = true
+
+-- the reading of the last call in which one did, or the block's
+unfoldable pub lastRow : ℕ → ℕ → List Happening → ℕ
+lastRow at w [] = at
+lastRow at w (h ∷ past) =
+    let o = stepOf (deviceAfter at w past) w h in
+    cond (acts (o .arrival) || acts (o .watchdog)) (readingOf h) (lastRow at w past)
+
+-- the reading of the last call whose SPDU was taken, or the block's
+unfoldable pub lastTakenAt : ℕ → ℕ → List Happening → ℕ
+lastTakenAt at w [] = at
+lastTakenAt at w (h ∷ past) = cond (acts (stepOf (deviceAfter at w past) w h .arrival)) (readingOf h) (lastTakenAt at w past)
+
 -- in one of the three waits
 abbrev pub waits : Device → Bool
 waits d = eqb (d .state) 21 || eqb (d .state) 24 || eqb (d .state) 26

@@ -92,3 +92,11 @@ module _ (at w : ℕ) where
       go : (b : Bool) → eqb (masterAfter at w past .state) 7 ≡ b → fault at w past ≡ None
       go true s = no (sym e ∙ always-held at w past .safe s)
       go false s = simp s at (stands past)
+
+  -- While a fault is open, until a T11 ends it, setSD is 1 in what goes out, and SDset_S with it.
+  pub sends-safe : (past : List Happening) → (fault at w past ≡ None → ⊥) → (masterAfter at w past .setSD ≡ true) × (masterAfter at w past .«SDset_S» ≡ true)
+  sends-safe past faulty = go (eqb (masterAfter at w past .state) 7) refl
+    where
+      go : (b : Bool) → eqb (masterAfter at w past .state) 7 ≡ b → (masterAfter at w past .setSD ≡ true) × (masterAfter at w past .«SDset_S» ≡ true)
+      go true s = let h = always-held at w past in (h .sent s, h .set (h .sent s))
+      go false s = absurd (faulty (simp s at (stands past)))

@@ -23,11 +23,12 @@ use Rattle.fs_master.specs.declared.Row.{Row}
 use Rattle.fs_master.specs.declared.Row.the-variants.{Stay, T4, T7, T8, T11, T12, T13, T14}
 use Rattle.fs_master.specs.Table38.{watchdogRow, isOld, isTaken, checked, from8, arrivalRow, taken, sampleFrom, t4, t7, t8, t11, t12, t13, t14, acted, signalled}
 use Rattle.fs_master.specs.Calls.{judged, quiet, arrived, received, watched, operated, stepOf}
-use Rattle.fs_master.specs.History.{FreshBy, Held, masterAfter, hasPassed, movedMaster, movedOutcome, signalsAfter, signals, Fault, None, Open, Asked, faultAfter, fault}
+use Rattle.fs_master.specs.History.{FreshBy, Held, masterAfter, hasPassed, movedMaster, movedOutcome, signalsAfter, signals, Fault, None, Open, Asked, faultAfter, fault, lastTakenAt}
 use Rattle.fs_master.specs.Regular.{isRegular}
 use Rattle.fs_master.proofs.Rows as rows
 use Rattle.fs_master.proofs.Release as release
 use Rattle.fs_master.proofs.Acknowledge as acknowledge
+use Rattle.fs_master.proofs.Watchdog as watchdog
 use Rattle.fs_master.proofs.Counts as counts
 use Rattle.fs_master.proofs.Faults as faults
 use Rattle.fs_master.proofs.Moved as moving
@@ -165,6 +166,12 @@ pub record Met : Type 0 where
   requested : after 5 .«ChFAckReq_S» ≡ true
   acknowledged : fault 0 100 (first 7) ≡ None
   passed-first : hasPassed 0 100 (first 1) ≡ true
+  late : after 3 .released ≡ false
+  released-in-time : elapsedOf 20 (lastTakenAt 0 100 (first 2)) ≤ 100
+  sends-safe : (after 9 .setSD ≡ true) × (after 9 .«SDset_S» ≡ true)
+
+opened : Open ≡ None → true ≡ false
+opened e = let z : _≡_ {A = ℕ} 0 1 = cc in absurd (omega arith)
 
 pub premises-met : Met
 unfolding isRegular masterAfter fault faultAfter signals signalsAfter stepOf watched operated quiet received arrived judged acted t4 t7 t8 t11 t12 t13 t14 taken isOld isTaken checked from8 arrivalRow watchdogRow signalled sampleFrom elapsedOf
@@ -192,4 +199,7 @@ premises-met = record {
   requested = acknowledge.requested 0 100 (first 5) refl;
   acknowledged = acknowledge.acknowledged 0 100 (first 7) refl;
   passed-first = release.passed-first 0 100 (first 1) refl;
+  late = watchdog.late 0 100 (first 2) (happening.Clock 200) refl (omega arith);
+  released-in-time = watchdog.released-in-time 0 100 (first 1) (happening.Clock 20) (omega arith) refl;
+  sends-safe = acknowledge.sends-safe 0 100 (first 9) (λ e. no (opened e));
 }

@@ -4,7 +4,7 @@ use native.Mathlib.Omega.{arith}
 use borrow.Author.Tests.{eqb-true, eqb-false}
 use Rattle.scl.specs.Counts.{countAfter}
 use Rattle.scl.specs.Happenings.{isFailure}
-use Rattle.scl.proofs.Cases.{cond-case, no}
+use Rattle.scl.proofs.Cases.{cond-case, no, or-second}
 use mathlib.Core.Path.{_≡_, refl, sym, ap, _∙_}
 use mathlib.Core.Bool.{Bool, true, false}
 use mathlib.Core.List.{List, [], _∷_}
@@ -94,18 +94,16 @@ unfolding countBy
 arrival-count m faults n =
     row-case (λ (r : Row). countBy r n ≡ countAfter n) m faults (λ _ _. refl) (λ _ _. refl) (λ _ _ _. refl) (λ _ _. refl) (λ _ _ _. refl)
 
-received-another : (m : Master) (r : Row) (at : ℕ) (f : Response) → received m r at f .passed ≡ true → received m r at f .master .MCount ≡ countAfter (m .MCount)
-unfolding received arrived quiet
-received-another m r at f =
-    cond-case (λ (o : Outcome). o .passed ≡ true → o .master .MCount ≡ countAfter (m .MCount)) (isTaken m f)
-    (λ _ _. arrived-count m f (arrivalRow m (hasFaults (isFailure (checked m f)) f)) at ∙ arrival-count m (hasFaults (isFailure (checked m f)) f) (m .MCount))
-    (λ _ e. no (cc))
+received-another : (m : Master) (r : Row) (at : ℕ) (f : Response) → isTaken m f ≡ true → received m r at f .master .MCount ≡ countAfter (m .MCount)
+unfolding received arrived
+received-another m r at f t =
+    rw t (arrived-count m f (arrivalRow m (hasFaults (isFailure (checked m f)) f)) at ∙ arrival-count m (hasFaults (isFailure (checked m f)) f) (m .MCount))
 
--- A response that passes is answered by another count, so no count sent has two that pass.
-pub another-count : (m : Master) (w at : ℕ) (f : Response) → stepOf m w (happening.Response at f) .passed ≡ true → stepOf m w (happening.Response at f) .master .MCount ≡ judged m w at .MCount → ⊥
+-- A response that is taken is answered by another count, whether it passes or not; so no count sent has two that are taken.
+pub another-count : (m : Master) (w at : ℕ) (f : Response) → isTaken (judged m w at) f ≡ true → stepOf m w (happening.Response at f) .master .MCount ≡ judged m w at .MCount → ⊥
 unfolding stepOf
-another-count m w at f p e =
-    another (judged m w at .MCount) (sym (received-another (judged m w at) (watchdogRow m w at) at f p) ∙ e)
+another-count m w at f t e =
+    another (judged m w at .MCount) (sym (received-another (judged m w at) (watchdogRow m w at) at f t) ∙ e)
 
 -- R17b's invariants
 
@@ -113,18 +111,18 @@ pub judged-held : (m : Master) (w at : ℕ) → Held m → Held (judged m w at)
 unfolding judged acted t8 t14
 judged-held m w at h =
     timeout-case (λ (r : Row). Held (acted m r at false)) m w at h
-    (λ _. record { rests = refl; shown = refl; same = h .same; no-request = λ e. no e; no-edge = λ e. no e; safe = λ _. refl; requested = h .requested })
-    (λ _. record { rests = refl; shown = refl; same = refl; no-request = λ e. no e; no-edge = λ e. no e; safe = λ _. refl; requested = λ e. no (sym e) })
+    (λ _. record { rests = refl; shown = refl; same = h .same; no-request = λ e. no e; no-edge = λ e. no e; safe = λ _. refl; requested = h .requested; sent = λ _. refl; set = λ _. refl })
+    (λ _. record { rests = refl; shown = refl; same = refl; no-request = λ e. no e; no-edge = λ e. no e; safe = λ _. refl; requested = λ e. no (sym e); sent = λ _. refl; set = λ _. refl })
 
 row-held : (m : Master) (f : Response) (at : ℕ) (faults : Bool) → Held m → Held (acted (taken m f) (arrivalRow m faults) at (f .SDset))
 unfolding acted taken t4 t7 t11 t12 t13
 row-held m f at faults h =
     row-case (λ (r : Row). Held (acted (taken m f) r at (f .SDset))) m faults
-    (λ s _. record { rests = refl; shown = refl; same = h .same; no-request = λ _. h .no-request s; no-edge = λ _. h .no-edge s; safe = λ e. no (sym e); requested = h .requested })
-    (λ _ _. record { rests = refl; shown = refl; same = h .same; no-request = λ e. no e; no-edge = λ e. no e; safe = λ _. refl; requested = h .requested })
-    (λ _ _ _. record { rests = refl; shown = refl; same = refl; no-request = λ _. refl; no-edge = λ _. refl; safe = λ e. no (sym e); requested = λ e. no (sym e) })
-    (λ _ _. record { rests = refl; shown = refl; same = refl; no-request = λ e. no e; no-edge = λ e. no e; safe = λ _. refl; requested = λ e. no (sym e) })
-    (λ _ _ _. record { rests = refl; shown = refl; same = refl; no-request = λ e. no e; no-edge = λ e. no e; safe = λ _. refl; requested = λ _. refl })
+    (λ s _. record { rests = refl; shown = refl; same = h .same; no-request = λ _. h .no-request s; no-edge = λ _. h .no-edge s; safe = λ e. no (sym e); requested = h .requested; sent = λ e. no (sym e); set = λ e. or-second (f .SDset) (m .«setSD_C») e })
+    (λ _ _. record { rests = refl; shown = refl; same = h .same; no-request = λ e. no e; no-edge = λ e. no e; safe = λ _. refl; requested = h .requested; sent = λ _. refl; set = λ _. refl })
+    (λ _ _ _. record { rests = refl; shown = refl; same = refl; no-request = λ _. refl; no-edge = λ _. refl; safe = λ e. no (sym e); requested = λ e. no (sym e); sent = λ e. no (sym e); set = λ e. or-second (f .SDset) (m .«setSD_C») e })
+    (λ _ _. record { rests = refl; shown = refl; same = refl; no-request = λ e. no e; no-edge = λ e. no e; safe = λ _. refl; requested = λ e. no (sym e); sent = λ _. refl; set = λ _. refl })
+    (λ _ _ _. record { rests = refl; shown = refl; same = refl; no-request = λ e. no e; no-edge = λ e. no e; safe = λ _. refl; requested = λ _. refl; sent = λ _. refl; set = λ _. refl })
 
 received-held : (m : Master) (r : Row) (at : ℕ) (f : Response) → Held m → Held (received m r at f .master)
 unfolding received arrived quiet
@@ -133,10 +131,10 @@ received-held m r at f h =
 
 signalled-held : (m : Master) («setSD_C» «ChFAck_C» : Bool) → Held m → Held (signalled m «setSD_C» «ChFAck_C»)
 unfolding signalled
-signalled-held m «setSD_C» «ChFAck_C» h = record { rests = h .rests; shown = h .shown; same = h .same; no-request = h .no-request; no-edge = h .no-edge; safe = h .safe; requested = h .requested }
+signalled-held m «setSD_C» «ChFAck_C» h = record { rests = h .rests; shown = h .shown; same = h .same; no-request = h .no-request; no-edge = h .no-edge; safe = h .safe; requested = h .requested; sent = h .sent; set = h .set }
 
 pub first-held : (at : ℕ) → Held (firstMaster at)
-first-held at = record { rests = refl; shown = refl; same = refl; no-request = λ _. refl; no-edge = λ _. refl; safe = λ _. refl; requested = λ e. no (sym e) }
+first-held at = record { rests = refl; shown = refl; same = refl; no-request = λ _. refl; no-edge = λ _. refl; safe = λ _. refl; requested = λ e. no (sym e); sent = λ _. refl; set = λ _. refl }
 
 pub held : (m : Master) (w : ℕ) (h : Happening) → Held m → Held (stepOf m w h .master)
 unfolding stepOf watched operated quiet

@@ -4,6 +4,7 @@ pub mod Counts
 pub mod Samples
 pub mod Regulars
 pub mod Signals
+pub mod Watchdog
 pub mod Acknowledge
 pub mod Arises
 pub mod Faults

@@ -12,7 +12,7 @@ use Rattle.scl.specs.declared.Happening.{Happening}
 use Rattle.scl.specs.declared.Happening.the-variants as happening
 use Rattle.scl.specs.declared.Mark.{Mark}
 use Rattle.scl.specs.declared.Mark.the-variants.{Fresh, GoesOn, Safe}
-use Rattle.scl.proofs.Cases.{cond-case, no, or-left, or-right}
+use Rattle.scl.proofs.Cases.{cond-case, no, or-left, or-right, or-second}
 use Rattle.scl.specs.declared.Response.{Response}
 use Rattle.fs_master.specs.declared.Master.{Master}
 use Rattle.fs_master.specs.declared.Outcome.{Outcome}
@@ -144,10 +144,6 @@ fresh-passes m w (happening.Response at f) c = let r = c .0 in simp (r .taken, r
 fresh-passes m w (happening.Request at q) c = absurd c
 fresh-passes m w (happening.Clock at) c = absurd c
 fresh-passes m w (happening.Operator at «setSD_C» «ChFAck_C») c = absurd c
-
-or-second : (a b : Bool) → b ≡ true → (a || b) ≡ true
-or-second true b e = refl
-or-second false b e = e
 
 module _ (at w : ℕ) where
   pub passed-first : (past : List Happening) → masterAfter at w past .released ≡ true → hasPassed at w past ≡ true

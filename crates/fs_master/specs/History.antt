@@ -115,6 +115,29 @@ fault at w (h ∷ past) =
     let acknowledges = signals past .«ChFAck_C» in
     faultAfter (o .arrival) acknowledges (faultAfter (o .watchdog) acknowledges (fault at w past))
 
+-- a row acts, and restarts MTimer (T5 and T9 stand behind it)
+abbrev pub acts : Row → Bool
+acts Stay = false
+acts T4 = true
+acts T7 = true
+acts T8 = true
+acts T11 = true
+acts T12 = true
+acts T13 = true
+acts T14 = true
+
+-- the reading of the last call in which one did, or the block's
+unfoldable pub lastRow : ℕ → ℕ → List Happening → ℕ
+lastRow at w [] = at
+lastRow at w (h ∷ past) =
+    let o = stepOf (masterAfter at w past) w h in
+    cond (acts (o .arrival) || acts (o .watchdog)) (readingOf h) (lastRow at w past)
+
+-- the reading of the last call whose SPDU was taken, or the block's
+unfoldable pub lastTakenAt : ℕ → ℕ → List Happening → ℕ
+lastTakenAt at w [] = at
+lastTakenAt at w (h ∷ past) = cond (acts (stepOf (masterAfter at w past) w h .arrival)) (readingOf h) (lastTakenAt at w past)
+
 -- ---- What holds of one call
 
 -- what a row of 000 Table 38 makes of MCount
@@ -133,7 +156,7 @@ abbrev pub waits : Master → Bool
 waits m = eqb (m .state) 2 || eqb (m .state) 5 || eqb (m .state) 7
 
 -- R17b's invariants: released exactly when SDset_S = 0; ChFAckReq = ChFAckReq_S, and no request but in 7. And of 7: no release there, no edge of
--- ChFAck_C awaited but there, and then ChFAckReq_S is 1.
+-- ChFAck_C awaited but there, and then ChFAckReq_S is 1; and setSD is 1 there. Nowhere is setSD 1 and SDset_S 0.
 pub record Held (m : Master) : Type 0 where
   pub rests : waits m ≡ true
   pub shown : m .released ≡ not (m .«SDset_S»)
@@ -142,6 +165,8 @@ pub record Held (m : Master) : Type 0 where
   pub no-edge : eqb (m .state) 7 ≡ false → m .«ChFAck_C_e» ≡ false
   pub safe : eqb (m .state) 7 ≡ true → m .released ≡ false
   pub requested : m .«ChFAck_C_e» ≡ true → m .«ChFAckReq_S» ≡ true
+  pub sent : eqb (m .state) 7 ≡ true → m .setSD ≡ true
+  pub set : m .setSD ≡ true → m .«SDset_S» ≡ true
 
 -- all readings moved by k on the clock
 unfoldable pub movedMaster : ℕ → Master → Master

@@ -10,14 +10,13 @@ use Rattle.scl.specs.Counts.{inverted}
 use Rattle.scl.specs.Happenings.{readingOf}
 use Rattle.scl.specs.declared.Happening.{Happening}
 use Rattle.scl.specs.declared.Happening.the-variants as happening
-use Rattle.scl.proofs.Cases.{cond-case}
-use Rattle.scl.specs.declared.Response.{Response}
+use Rattle.scl.proofs.Cases.{cond-case, and-left}
 use Rattle.fs_master.specs.declared.Master.{Master}
 use Rattle.fs_master.specs.Table38.{isTaken, signalled}
 use Rattle.fs_master.specs.Calls.{judged, quiet, watched, operated, stepOf}
 use Rattle.fs_master.specs.History.{sound, masterAfter, judgedIn, passesBy}
 use Rattle.fs_master.proofs.Counts.{another-count}
-use Rattle.fs_master.proofs.Samples.{judged-start, step-start, step-passed, passes-as, step-old, Kept, judged-kept, response-kept}
+use Rattle.fs_master.proofs.Samples.{judged-start, step-start, passes-as, step-old, Kept, judged-kept, response-kept}
 use Rattle.samples.specs.Samples.{oldBy, whileSame, sentSince, answered, timeOf, isSample, Previous, previousBy, lastTaken}
 
 module _ (at w : ℕ) where
@@ -65,7 +64,7 @@ module _ (at w : ℕ) where
   passes-no m (happening.Response at f) e = go (isTaken (judged m w at) f && sound (judged m w at) f) refl
     where
       go : (b : Bool) → (isTaken (judged m w at) f && sound (judged m w at) f) ≡ b → b ≡ false
-      go true z = absurd (another-count m w at f (step-passed m w at f ∙ z) e)
+      go true z = absurd (another-count m w at f (and-left (isTaken (judged m w at) f) (sound (judged m w at) f) z) e)
       go false z = refl
   passes-no m (happening.Request at q) e = refl
   passes-no m (happening.Clock at) e = refl

@@ -32,3 +32,11 @@ or-left false b e = refl
 pub or-right : (a b : Bool) → (a || b) ≡ false → b ≡ false
 or-right true b e = let z : true ≡ false = e in cc
 or-right false b e = e
+
+pub or-second : (a b : Bool) → b ≡ true → (a || b) ≡ true
+or-second true b e = refl
+or-second false b e = e
+
+pub cond-or : {A : Type 0} (a b : Bool) (x y : A) → cond a x (cond b x y) ≡ cond (a || b) x y
+cond-or true b x y = refl
+cond-or false b x y = refl

@@ -1,0 +1,226 @@
+-- Release ends at W: when DTimer runs, what it reads, and what a call does that finds it above W. Assumes nothing.
+use Prim.Native.Nat.{ℕ, _≤_, _<_, _^_}
+use native.Mathlib.Omega.{arith}
+use mathlib.Core.Path.{_≡_, refl, sym, ap, _∙_}
+use mathlib.Core.Bool.{Bool, true, false, cond, not, _||_}
+use mathlib.Core.List.{List, [], _∷_}
+use mathlib.Core.Logic.{_⊎_, inl, inr}
+use lib.Dec.{eqb, ltb}
+use borrow.Author.Tests.{ltb-true, ltb-false, lt-ltb, not-true}
+use Rattle.scl.specs.Time.{elapsedOf}
+use Rattle.scl.specs.Happenings.{readingOf, isFailure}
+use Rattle.scl.specs.declared.Happening.{Happening}
+use Rattle.scl.specs.declared.Happening.the-variants as happening
+use Rattle.scl.specs.declared.Request.{Request}
+use Rattle.scl.proofs.Time.{forward}
+use Rattle.scl.proofs.Cases.{cond-case, cond-or, no}
+use Rattle.fs_device.specs.declared.Device.{Device}
+use Rattle.fs_device.specs.declared.Outcome.{Outcome}
+use Rattle.fs_device.specs.declared.Row.{Row}
+use Rattle.fs_device.specs.declared.Row.the-variants.{Stay, T30, T31}
+use Rattle.fs_device.specs.Table40.{watchdogRow, isOld, isTaken, checked, arrivalRow, taken, t22, t25, t28, t29, t30t31, acted}
+use Rattle.fs_device.specs.Calls.{judged, quiet, arrived, received, watched, stepOf}
+use Rattle.fs_device.specs.History.{deviceAfter, waits, acts, lastRow, lastTakenAt}
+use Rattle.fs_device.proofs.Rows.{judged-case, row-case}
+use Rattle.fs_device.proofs.Faults.{waits-always}
+
+-- ---- what one call does to the timer: a row that acts restarts it, and it runs from then; without one it stays
+
+record Timed (d : Device) (at : ℕ) (row : Bool) (n : Device) : Type 0 where
+  pub reads : n .DTimer ≡ cond row at (d .DTimer)
+  pub runs-is : n .runs ≡ cond row true (d .runs)
+  pub goes : (d .runs ≡ not (eqb (d .state) 21)) → n .runs ≡ not (eqb (n .state) 21)
+
+judged-timed : (d : Device) (w at : ℕ) → Timed d at (acts (watchdogRow d w at)) (judged d w at)
+unfolding t30t31
+judged-timed d w at =
+    judged-case d w at (λ r n. Timed d at (acts r) n)
+    (record { reads = refl; runs-is = refl; goes = λ e. e })
+    (record { reads = refl; runs-is = refl; goes = λ _. refl })
+    (record { reads = refl; runs-is = refl; goes = λ _. refl })
+
+arrived-timed : (d : Device) (r : Row) (at : ℕ) (q : Request) → let o = arrived d r at q (checked d q) in Timed d at (acts (o .arrival)) (o .device)
+unfolding arrived t22 t25 t28 t29
+arrived-timed d r at q =
+    row-case d at q (λ x _ n. Timed d at (acts x) n) (isFailure (checked d q))
+    (λ _. record { reads = refl; runs-is = refl; goes = λ _. refl })
+    (record { reads = refl; runs-is = refl; goes = λ _. refl })
+    (λ _. record { reads = refl; runs-is = refl; goes = λ _. refl })
+    (λ _. record { reads = refl; runs-is = refl; goes = λ _. refl })
+
+received-timed : (d : Device) (r : Row) (at : ℕ) (q : Request) → let o = received d r at q in Timed d at (acts (o .arrival)) (o .device)
+unfolding received quiet
+received-timed d r at q =
+    cond-case (λ (o : Outcome). Timed d at (acts (o .arrival)) (o .device)) (isTaken d q) {x = arrived d r at q (checked d q)} {y = quiet d r (isOld d q)}
+    (λ _. arrived-timed d r at q)
+    (λ _. record { reads = refl; runs-is = refl; goes = λ e. e })
+
+received-watchdog : (d : Device) (r : Row) (at : ℕ) (q : Request) → received d r at q .watchdog ≡ r
+unfolding received arrived quiet
+received-watchdog d r at q =
+    cond-case (λ (o : Outcome). o .watchdog ≡ r) (isTaken d q) {x = arrived d r at q (checked d q)} {y = quiet d r (isOld d q)} (λ _. refl) (λ _. refl)
+
+pub step-watchdog : (d : Device) (w : ℕ) (h : Happening) → stepOf d w h .watchdog ≡ watchdogRow d w (readingOf h)
+unfolding stepOf watched quiet
+step-watchdog d w (happening.Request at q) = received-watchdog (judged d w at) (watchdogRow d w at) at q
+step-watchdog d w (happening.Response at f) = refl
+step-watchdog d w (happening.Clock at) = refl
+step-watchdog d w (happening.Operator at «setSD_C» «ChFAck_C») = refl
+
+step-timed : (d : Device) (w : ℕ) (h : Happening) → let o = stepOf d w h in Timed d (readingOf h) (acts (o .arrival) || acts (o .watchdog)) (o .device)
+unfolding stepOf watched quiet
+step-timed d w (happening.Request at q) =
+    let j = judged-timed d w at in
+    let k = received-timed (judged d w at) (watchdogRow d w at) at q in
+    let o = received (judged d w at) (watchdogRow d w at) at q in
+    record {
+      reads =
+          k .reads ∙ ap (λ (t : ℕ). cond (acts (o .arrival)) at t) (j .reads)
+          ∙ cond-or (acts (o .arrival)) (acts (watchdogRow d w at)) at (d .DTimer)
+          ∙ ap (λ (r : Row). cond (acts (o .arrival) || acts r) at (d .DTimer)) (sym (step-watchdog d w (happening.Request at q)));
+      runs-is =
+          k .runs-is ∙ ap (λ (b : Bool). cond (acts (o .arrival)) true b) (j .runs-is)
+          ∙ cond-or (acts (o .arrival)) (acts (watchdogRow d w at)) true (d .runs)
+          ∙ ap (λ (r : Row). cond (acts (o .arrival) || acts r) true (d .runs)) (sym (step-watchdog d w (happening.Request at q)));
+      goes = λ e. k .goes (j .goes e);
+    }
+step-timed d w (happening.Response at f) = judged-timed d w at
+step-timed d w (happening.Clock at) = judged-timed d w at
+step-timed d w (happening.Operator at «setSD_C» «ChFAck_C») = judged-timed d w at
+
+module _ (at w : ℕ) where
+  -- DTimer runs exactly outside of state 21, and reads the last call in which a row acted
+  pub timer-runs : (past : List Happening) → deviceAfter at w past .runs ≡ not (eqb (deviceAfter at w past .state) 21)
+  unfolding deviceAfter
+  timer-runs [] = refl
+  timer-runs (h ∷ past) = step-timed (deviceAfter at w past) w h .goes (timer-runs past)
+
+  pub timer-reads : (past : List Happening) → deviceAfter at w past .DTimer ≡ lastRow at w past
+  unfolding deviceAfter lastRow
+  timer-reads [] = refl
+  timer-reads (h ∷ past) =
+      let o = stepOf (deviceAfter at w past) w h in
+      step-timed (deviceAfter at w past) w h .reads ∙ ap (λ (t : ℕ). cond (acts (o .arrival) || acts (o .watchdog)) (readingOf h) t) (timer-reads past)
+
+-- ---- what a call does that finds it above W
+
+-- the watchdog's row then acts, and leaves state 26 with three cycles to go
+record Ended (n : Device) : Type 0 where
+  pub in26 : n .state ≡ 26
+  pub cycles : n .SDcycles ≡ 3
+  pub silent : n .released ≡ false
+
+late-judged : (d : Device) (w at : ℕ) → waits d ≡ true → eqb (d .state) 21 ≡ false → d .runs ≡ true → w < elapsedOf at (d .DTimer) → Ended (judged d w at)
+unfolding judged watchdogRow acted t30t31
+late-judged d w at rests not21 runs late = simp (runs, lt-ltb w (elapsedOf at (d .DTimer)) late) (go (eqb (d .state) 24) (eqb (d .state) 26) refl refl)
+  where
+    go : (in24 in26 : Bool) → eqb (d .state) 24 ≡ in24 → eqb (d .state) 26 ≡ in26 → Ended (acted d (cond in24 T31 (cond in26 T30 Stay)) at false false)
+    go true in26 e24 e26 = record { in26 = refl; cycles = refl; silent = refl }
+    go false true e24 e26 = record { in26 = refl; cycles = refl; silent = refl }
+    go false false e24 e26 = no (sym (simp (not21, e24, e26) at rests))
+
+ended-row : (d : Device) (q : Request) (at : ℕ) (CommErr : Bool) → Ended d → acted (taken d q) (arrivalRow d CommErr) at (q .setSD) CommErr .released ≡ false
+unfolding arrivalRow acted t25 t28 t29
+ended-row d q at CommErr e =
+    let in26 : eqb (d .state) 26 ≡ true = ap (λ (n : ℕ). eqb n 26) (e .in26) in
+    row-case d at q (λ _ _ n. n .released ≡ false) CommErr (λ s. no (sym in26 ∙ s)) refl (λ _. refl) (λ _. refl)
+
+ended-received : (d : Device) (r : Row) (at : ℕ) (q : Request) → Ended d → received d r at q .device .released ≡ false
+unfolding received arrived quiet
+ended-received d r at q e =
+    cond-case (λ (o : Outcome). o .device .released ≡ false) (isTaken d q) {x = arrived d r at q (checked d q)} {y = quiet d r (isOld d q)}
+    (λ _. ended-row d q at (isFailure (checked d q)) e)
+    (λ _. e .silent)
+
+late-step : (d : Device) (w : ℕ) (h : Happening) → Ended (judged d w (readingOf h)) → stepOf d w h .device .released ≡ false
+unfolding stepOf watched quiet
+late-step d w (happening.Request at q) e = ended-received (judged d w at) (watchdogRow d w at) at q e
+late-step d w (happening.Response at f) e = e .silent
+late-step d w (happening.Clock at) e = e .silent
+late-step d w (happening.Operator at «setSD_C» «ChFAck_C») e = e .silent
+
+-- A call that finds DTimer running with elapsed above W leaves nothing released, whatever it brings.
+pub late : (at w : ℕ) (past : List Happening) (h : Happening) → let d = deviceAfter at w past in
+    d .runs ≡ true → w < elapsedOf (readingOf h) (d .DTimer) → deviceAfter at w (h ∷ past) .released ≡ false
+unfolding deviceAfter
+late at w past h runs over =
+    let d = deviceAfter at w past in
+    late-step d w h (late-judged d w (readingOf h) (waits-always at w past) (not-true (eqb (d .state) 21) (sym (timer-runs at w past) ∙ runs)) runs over)
+
+-- ---- so nothing is released longer than W after the last SPDU that was taken
+
+-- where a call leaves values released, its SPDU was taken; or no row acted and they were released before
+still-judged : (d : Device) (w at : ℕ) → judged d w at .released ≡ true → (acts (watchdogRow d w at) ≡ false) × (d .released ≡ true)
+unfolding t30t31
+still-judged d w at = judged-case d w at (λ r n. n .released ≡ true → (acts r ≡ false) × (d .released ≡ true)) (λ e. (refl, e)) (λ e. no (sym e)) (λ e. no (sym e))
+
+arrival-acts : (d : Device) (at : ℕ) (q : Request) (CommErr : Bool) → acts (arrivalRow d CommErr) ≡ true
+arrival-acts d at q CommErr = row-case d at q (λ r _ _. acts r ≡ true) CommErr (λ _. refl) refl (λ _. refl) (λ _. refl)
+
+abbrev Still : Device → ℕ → ℕ → Outcome → Type 0
+Still d w at o = (acts (o .arrival) ≡ true) ⊎ ((acts (o .arrival) ≡ false) × ((acts (watchdogRow d w at) ≡ false) × (d .released ≡ true)))
+
+still : (d : Device) (w : ℕ) (h : Happening) → stepOf d w h .device .released ≡ true → Still d w (readingOf h) (stepOf d w h)
+unfolding stepOf watched quiet received arrived
+still d w (happening.Request at q) =
+    let j = judged d w at in
+    cond-case (λ (o : Outcome). o .device .released ≡ true → Still d w at o) (isTaken j q) {x = arrived j (watchdogRow d w at) at q (checked j q)} {y = quiet j (watchdogRow d w at) (isOld j q)}
+    (λ _ _. inl (arrival-acts j at q (isFailure (checked j q))))
+    (λ _ e. inr (refl, still-judged d w at e))
+still d w (happening.Response at f) = λ e. inr (refl, still-judged d w at e)
+still d w (happening.Clock at) = λ e. inr (refl, still-judged d w at e)
+still d w (happening.Operator at «setSD_C» «ChFAck_C») = λ e. inr (refl, still-judged d w at e)
+
+module _ (at w : ℕ) where
+  watchdog-is : (past : List Happening) (h : Happening) → acts (watchdogRow (deviceAfter at w past) w (readingOf h)) ≡ false → acts (stepOf (deviceAfter at w past) w h .watchdog) ≡ false
+  watchdog-is past h e = ap acts (step-watchdog (deviceAfter at w past) w h) ∙ e
+
+  released-runs : (past : List Happening) → deviceAfter at w past .released ≡ true → deviceAfter at w past .runs ≡ true
+  unfolding deviceAfter
+  released-runs [] e = no (sym e)
+  released-runs (h ∷ past) e = go (released-runs past) (still d w h e)
+    where
+      d : Device
+      d = deviceAfter at w past
+
+      go : (d .released ≡ true → d .runs ≡ true) → Still d w (readingOf h) (stepOf d w h) → stepOf d w h .device .runs ≡ true
+      go before (inl a) = step-timed d w h .runs-is ∙ simp a
+      go before (inr n) = step-timed d w h .runs-is ∙ simp (n .0, watchdog-is past h (n .1 .0)) (before (n .1 .1))
+
+  released-last : (past : List Happening) → deviceAfter at w past .released ≡ true → lastRow at w past ≡ lastTakenAt at w past
+  unfolding deviceAfter lastRow lastTakenAt
+  released-last [] e = refl
+  released-last (h ∷ past) e = go (released-last past) (still d w h e)
+    where
+      d : Device
+      d = deviceAfter at w past
+
+      go : (d .released ≡ true → lastRow at w past ≡ lastTakenAt at w past) → Still d w (readingOf h) (stepOf d w h) → lastRow at w (h ∷ past) ≡ lastTakenAt at w (h ∷ past)
+      go before (inl a) = simp a
+      go before (inr n) = simp (n .0, watchdog-is past h (n .1 .0)) (before (n .1 .1))
+
+  not-late : (past : List Happening) (h : Happening) → deviceAfter at w past .runs ≡ true → deviceAfter at w (h ∷ past) .released ≡ true
+      → elapsedOf (readingOf h) (deviceAfter at w past .DTimer) ≤ w
+  not-late past h runs e = go (ltb w elapsed) refl
+    where
+      elapsed : ℕ
+      elapsed = elapsedOf (readingOf h) (deviceAfter at w past .DTimer)
+
+      go : (b : Bool) → ltb w elapsed ≡ b → elapsed ≤ w
+      go true over = no (sym e ∙ late at w past h runs (ltb-true w elapsed over))
+      go false over = ltb-false w elapsed over
+
+  -- After no call is a value released whose last SPDU lies more than W back.
+  pub released-in-time : (past : List Happening) (h : Happening) → readingOf h < 2 ^ 32 → deviceAfter at w (h ∷ past) .released ≡ true
+      → elapsedOf (readingOf h) (lastTakenAt at w (h ∷ past)) ≤ w
+  unfolding deviceAfter lastTakenAt
+  released-in-time past h small e = go (still d w h e)
+    where
+      d : Device
+      d = deviceAfter at w past
+
+      go : Still d w (readingOf h) (stepOf d w h) → elapsedOf (readingOf h) (lastTakenAt at w (h ∷ past)) ≤ w
+      go (inl a) = simp a (rw (forward (readingOf h) (readingOf h) small (omega arith)) (omega arith))
+      go (inr n) =
+          simp (n .0)
+          (rw (sym (released-last past (n .1 .1)), sym (timer-reads at w past)) (not-late past h (released-runs past (n .1 .1)) e))

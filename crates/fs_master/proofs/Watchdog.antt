@@ -1,0 +1,232 @@
+-- Release ends at W: when MTimer runs, what it reads, and what a call does that finds it above W. Assumes nothing.
+use Prim.Native.Nat.{ℕ, _≤_, _<_, _^_}
+use native.Mathlib.Omega.{arith}
+use mathlib.Core.Path.{_≡_, refl, sym, ap, _∙_}
+use mathlib.Core.Bool.{Bool, true, false, cond, not, _||_}
+use mathlib.Core.List.{List, [], _∷_}
+use mathlib.Core.Logic.{_⊎_, inl, inr}
+use lib.Dec.{eqb, ltb}
+use borrow.Author.Tests.{eqb-true, ltb-true, ltb-false, lt-ltb, not-true}
+use Rattle.scl.specs.Time.{elapsedOf, expiredOf}
+use Rattle.scl.specs.Happenings.{readingOf, isFailure}
+use Rattle.scl.specs.declared.Happening.{Happening}
+use Rattle.scl.specs.declared.Happening.the-variants as happening
+use Rattle.scl.specs.declared.Response.{Response}
+use Rattle.scl.proofs.Time.{forward}
+use Rattle.scl.proofs.Cases.{cond-case, cond-or, no, and-right}
+use Rattle.fs_master.specs.declared.Master.{Master}
+use Rattle.fs_master.specs.declared.Outcome.{Outcome}
+use Rattle.fs_master.specs.declared.Row.{Row}
+use Rattle.fs_master.specs.declared.Row.the-variants.{Stay, T8, T14}
+use Rattle.fs_master.specs.Table38.{timeoutRow, watchdogRow, isOld, isTaken, hasFaults, checked, arrivalRow, taken, t4, t7, t8, t11, t12, t13, t14, acted, signalled}
+use Rattle.fs_master.specs.Calls.{judged, quiet, arrived, received, watched, operated, stepOf}
+use Rattle.fs_master.specs.History.{masterAfter, Held, acts, lastRow, lastTakenAt}
+use Rattle.fs_master.proofs.Rows.{timeout-case, row-case}
+use Rattle.fs_master.proofs.Counts.{always-held}
+use Rattle.fs_master.proofs.Samples.{step-watchdog}
+
+-- ---- what one call does to the timer: a row that acts restarts it, and it runs from then; without one it stays
+
+record Timed (m : Master) (at : ℕ) (row : Bool) (n : Master) : Type 0 where
+  pub reads : n .MTimer ≡ cond row at (m .MTimer)
+  pub runs-is : n .runs ≡ cond row true (m .runs)
+  pub goes : (m .runs ≡ not (eqb (m .state) 2)) → n .runs ≡ not (eqb (n .state) 2)
+
+judged-timed : (m : Master) (w at : ℕ) → Timed m at (acts (watchdogRow m w at)) (judged m w at)
+unfolding judged acted t8 t14
+judged-timed m w at =
+    timeout-case (λ (r : Row). Timed m at (acts r) (acted m r at false)) m w at
+    (record { reads = refl; runs-is = refl; goes = λ e. e })
+    (λ _. record { reads = refl; runs-is = refl; goes = λ _. refl })
+    (λ _. record { reads = refl; runs-is = refl; goes = λ _. refl })
+
+arrived-timed : (m : Master) (r : Row) (at : ℕ) (f : Response) → let o = arrived m r at f (checked m f) in Timed m at (acts (o .arrival)) (o .master)
+unfolding arrived acted taken t4 t7 t11 t12 t13
+arrived-timed m r at f =
+    row-case (λ (x : Row). Timed m at (acts x) (acted (taken m f) x at (f .SDset))) m (hasFaults (isFailure (checked m f)) f)
+    (λ _ _. record { reads = refl; runs-is = refl; goes = λ _. refl })
+    (λ _ _. record { reads = refl; runs-is = refl; goes = λ _. refl })
+    (λ _ _ _. record { reads = refl; runs-is = refl; goes = λ _. refl })
+    (λ _ _. record { reads = refl; runs-is = refl; goes = λ _. refl })
+    (λ _ _ _. record { reads = refl; runs-is = refl; goes = λ _. refl })
+
+received-timed : (m : Master) (r : Row) (at : ℕ) (f : Response) → let o = received m r at f in Timed m at (acts (o .arrival)) (o .master)
+unfolding received quiet
+received-timed m r at f =
+    cond-case (λ (o : Outcome). Timed m at (acts (o .arrival)) (o .master)) (isTaken m f) {x = arrived m r at f (checked m f)} {y = quiet m r (isOld m f)}
+    (λ _. arrived-timed m r at f)
+    (λ _. record { reads = refl; runs-is = refl; goes = λ e. e })
+
+step-timed : (m : Master) (w : ℕ) (h : Happening) → let o = stepOf m w h in Timed m (readingOf h) (acts (o .arrival) || acts (o .watchdog)) (o .master)
+unfolding stepOf watched operated quiet signalled
+step-timed m w (happening.Response at f) =
+    let j = judged-timed m w at in
+    let k = received-timed (judged m w at) (watchdogRow m w at) at f in
+    let o = received (judged m w at) (watchdogRow m w at) at f in
+    record {
+      reads =
+          k .reads ∙ ap (λ (t : ℕ). cond (acts (o .arrival)) at t) (j .reads)
+          ∙ cond-or (acts (o .arrival)) (acts (watchdogRow m w at)) at (m .MTimer)
+          ∙ ap (λ (r : Row). cond (acts (o .arrival) || acts r) at (m .MTimer)) (sym (step-watchdog m w (happening.Response at f)));
+      runs-is =
+          k .runs-is ∙ ap (λ (b : Bool). cond (acts (o .arrival)) true b) (j .runs-is)
+          ∙ cond-or (acts (o .arrival)) (acts (watchdogRow m w at)) true (m .runs)
+          ∙ ap (λ (r : Row). cond (acts (o .arrival) || acts r) true (m .runs)) (sym (step-watchdog m w (happening.Response at f)));
+      goes = λ e. k .goes (j .goes e);
+    }
+step-timed m w (happening.Request at q) = judged-timed m w at
+step-timed m w (happening.Clock at) = judged-timed m w at
+step-timed m w (happening.Operator at «setSD_C» «ChFAck_C») = record { reads = judged-timed m w at .reads; runs-is = judged-timed m w at .runs-is; goes = judged-timed m w at .goes }
+
+-- ---- what a call does that finds it above W
+
+-- the watchdog's row then acts, and leaves state 7 with no edge awaited
+record Ended (n : Master) : Type 0 where
+  pub in7 : n .state ≡ 7
+  pub no-edge : n .«ChFAck_C_e» ≡ false
+  pub silent : n .released ≡ false
+
+late-by : (m : Master) (at : ℕ) → Held m → eqb (m .state) 2 ≡ false → Ended (acted m (timeoutRow (m .state)) at false)
+unfolding acted t8 t14
+late-by m at h not2 = go (eqb (m .state) 5) (eqb (m .state) 7) refl refl (h .rests)
+  where
+    go : (in5 in7 : Bool) → eqb (m .state) 5 ≡ in5 → eqb (m .state) 7 ≡ in7 → (eqb (m .state) 2 || eqb (m .state) 5 || eqb (m .state) 7) ≡ true
+        → Ended (acted m (cond in5 T8 (cond in7 T14 Stay)) at false)
+    go true true e5 e7 r = absurd (omega (arith, eqb-true (m .state) 5 e5, eqb-true (m .state) 7 e7))
+    go true false e5 e7 r = record { in7 = refl; no-edge = h .no-edge e7; silent = refl }
+    go false true e5 e7 r = record { in7 = refl; no-edge = refl; silent = refl }
+    go false false e5 e7 r = no (sym (simp (not2, e5, e7) at r))
+
+module _ (at w : ℕ) where
+  -- MTimer runs exactly outside of state 2, and reads the last call in which a row acted
+  pub timer-runs : (past : List Happening) → masterAfter at w past .runs ≡ not (eqb (masterAfter at w past .state) 2)
+  unfolding masterAfter
+  timer-runs [] = refl
+  timer-runs (h ∷ past) = step-timed (masterAfter at w past) w h .goes (timer-runs past)
+
+  pub timer-reads : (past : List Happening) → masterAfter at w past .MTimer ≡ lastRow at w past
+  unfolding masterAfter lastRow
+  timer-reads [] = refl
+  timer-reads (h ∷ past) =
+      let o = stepOf (masterAfter at w past) w h in
+      step-timed (masterAfter at w past) w h .reads ∙ ap (λ (t : ℕ). cond (acts (o .arrival) || acts (o .watchdog)) (readingOf h) t) (timer-reads past)
+
+-- the arrival's rows do not release from there
+ended-row : (m : Master) (f : Response) (at : ℕ) (faults : Bool) → Ended m → acted (taken m f) (arrivalRow m faults) at (f .SDset) .released ≡ false
+unfolding acted taken t4 t7 t11 t12 t13
+ended-row m f at faults e =
+    let in7 : eqb (m .state) 7 ≡ true = ap (λ (n : ℕ). eqb n 7) (e .in7) in
+    row-case (λ (r : Row). acted (taken m f) r at (f .SDset) .released ≡ false) m faults
+    (λ s _. no (sym in7 ∙ s))
+    (λ _ _. refl)
+    (λ _ _ a. no (sym (and-right (m .«ChFAck_C») (m .«ChFAck_C_e») a) ∙ e .no-edge))
+    (λ _ _. refl)
+    (λ _ _ _. refl)
+
+ended-received : (m : Master) (r : Row) (at : ℕ) (f : Response) → Ended m → received m r at f .master .released ≡ false
+unfolding received arrived quiet
+ended-received m r at f e =
+    cond-case (λ (o : Outcome). o .master .released ≡ false) (isTaken m f) {x = arrived m r at f (checked m f)} {y = quiet m r (isOld m f)}
+    (λ _. ended-row m f at (hasFaults (isFailure (checked m f)) f) e)
+    (λ _. e .silent)
+
+late-judged : (m : Master) (w at : ℕ) → Held m → m .runs ≡ not (eqb (m .state) 2) → m .runs ≡ true → w < elapsedOf at (m .MTimer) → Ended (judged m w at)
+unfolding judged watchdogRow
+late-judged m w at h outside runs late =
+    let expired : expiredOf at (m .MTimer) w ≡ true = lt-ltb w (elapsedOf at (m .MTimer)) late in
+    simp (runs, expired) (late-by m at h (not-true (eqb (m .state) 2) (sym outside ∙ runs)))
+
+late-step : (m : Master) (w : ℕ) (h : Happening) → Ended (judged m w (readingOf h)) → stepOf m w h .master .released ≡ false
+unfolding stepOf watched operated quiet signalled
+late-step m w (happening.Response at f) e = ended-received (judged m w at) (watchdogRow m w at) at f e
+late-step m w (happening.Request at q) e = e .silent
+late-step m w (happening.Clock at) e = e .silent
+late-step m w (happening.Operator at «setSD_C» «ChFAck_C») e = e .silent
+
+-- A call that finds MTimer running with elapsed above W leaves nothing released, whatever it brings.
+pub late : (at w : ℕ) (past : List Happening) (h : Happening) → let m = masterAfter at w past in
+    m .runs ≡ true → w < elapsedOf (readingOf h) (m .MTimer) → masterAfter at w (h ∷ past) .released ≡ false
+unfolding masterAfter
+late at w past h runs over =
+    let m = masterAfter at w past in
+    late-step m w h (late-judged m w (readingOf h) (always-held at w past) (timer-runs at w past) runs over)
+
+-- ---- so nothing is released longer than W after the last SPDU that was taken
+
+-- where a call leaves values released, its SPDU was taken; or no row acted and they were released before
+still-judged : (m : Master) (w at : ℕ) → judged m w at .released ≡ true → (acts (watchdogRow m w at) ≡ false) × (m .released ≡ true)
+unfolding judged acted t8 t14
+still-judged m w at =
+    timeout-case (λ (r : Row). acted m r at false .released ≡ true → (acts r ≡ false) × (m .released ≡ true)) m w at
+    (λ e. (refl, e)) (λ _ e. no (sym e)) (λ _ e. no (sym e))
+
+arrival-acts : (m : Master) (faults : Bool) → acts (arrivalRow m faults) ≡ true
+arrival-acts m faults = row-case (λ (r : Row). acts r ≡ true) m faults (λ _ _. refl) (λ _ _. refl) (λ _ _ _. refl) (λ _ _. refl) (λ _ _ _. refl)
+
+abbrev Still : Master → ℕ → ℕ → Outcome → Type 0
+Still m w at o = (acts (o .arrival) ≡ true) ⊎ ((acts (o .arrival) ≡ false) × ((acts (watchdogRow m w at) ≡ false) × (m .released ≡ true)))
+
+still : (m : Master) (w : ℕ) (h : Happening) → stepOf m w h .master .released ≡ true → Still m w (readingOf h) (stepOf m w h)
+unfolding stepOf watched operated quiet signalled received arrived
+still m w (happening.Response at f) =
+    let j = judged m w at in
+    cond-case (λ (o : Outcome). o .master .released ≡ true → Still m w at o) (isTaken j f) {x = arrived j (watchdogRow m w at) at f (checked j f)} {y = quiet j (watchdogRow m w at) (isOld j f)}
+    (λ _ _. inl (arrival-acts j (hasFaults (isFailure (checked j f)) f)))
+    (λ _ e. inr (refl, still-judged m w at e))
+still m w (happening.Request at q) = λ e. inr (refl, still-judged m w at e)
+still m w (happening.Clock at) = λ e. inr (refl, still-judged m w at e)
+still m w (happening.Operator at «setSD_C» «ChFAck_C») = λ e. inr (refl, still-judged m w at e)
+
+module _ (at w : ℕ) where
+  watchdog-is : (past : List Happening) (h : Happening) → acts (watchdogRow (masterAfter at w past) w (readingOf h)) ≡ false → acts (stepOf (masterAfter at w past) w h .watchdog) ≡ false
+  watchdog-is past h e = ap acts (step-watchdog (masterAfter at w past) w h) ∙ e
+
+  released-runs : (past : List Happening) → masterAfter at w past .released ≡ true → masterAfter at w past .runs ≡ true
+  unfolding masterAfter
+  released-runs [] e = no (sym e)
+  released-runs (h ∷ past) e = go (released-runs past) (still m w h e)
+    where
+      m : Master
+      m = masterAfter at w past
+
+      go : (m .released ≡ true → m .runs ≡ true) → Still m w (readingOf h) (stepOf m w h) → stepOf m w h .master .runs ≡ true
+      go before (inl a) = step-timed m w h .runs-is ∙ simp a
+      go before (inr n) = step-timed m w h .runs-is ∙ simp (n .0, watchdog-is past h (n .1 .0)) (before (n .1 .1))
+
+  released-last : (past : List Happening) → masterAfter at w past .released ≡ true → lastRow at w past ≡ lastTakenAt at w past
+  unfolding masterAfter lastRow lastTakenAt
+  released-last [] e = refl
+  released-last (h ∷ past) e = go (released-last past) (still m w h e)
+    where
+      m : Master
+      m = masterAfter at w past
+
+      go : (m .released ≡ true → lastRow at w past ≡ lastTakenAt at w past) → Still m w (readingOf h) (stepOf m w h) → lastRow at w (h ∷ past) ≡ lastTakenAt at w (h ∷ past)
+      go before (inl a) = simp a
+      go before (inr n) = simp (n .0, watchdog-is past h (n .1 .0)) (before (n .1 .1))
+
+  not-late : (past : List Happening) (h : Happening) → masterAfter at w past .runs ≡ true → masterAfter at w (h ∷ past) .released ≡ true
+      → elapsedOf (readingOf h) (masterAfter at w past .MTimer) ≤ w
+  not-late past h runs e = go (ltb w elapsed) refl
+    where
+      elapsed : ℕ
+      elapsed = elapsedOf (readingOf h) (masterAfter at w past .MTimer)
+
+      go : (b : Bool) → ltb w elapsed ≡ b → elapsed ≤ w
+      go true over = no (sym e ∙ late at w past h runs (ltb-true w elapsed over))
+      go false over = ltb-false w elapsed over
+
+  -- After no call is a value released whose last SPDU lies more than W back.
+  pub released-in-time : (past : List Happening) (h : Happening) → readingOf h < 2 ^ 32 → masterAfter at w (h ∷ past) .released ≡ true
+      → elapsedOf (readingOf h) (lastTakenAt at w (h ∷ past)) ≤ w
+  unfolding masterAfter lastTakenAt
+  released-in-time past h small e = go (still m w h e)
+    where
+      m : Master
+      m = masterAfter at w past
+
+      go : Still m w (readingOf h) (stepOf m w h) → elapsedOf (readingOf h) (lastTakenAt at w (h ∷ past)) ≤ w
+      go (inl a) = simp a (rw (forward (readingOf h) (readingOf h) small (omega arith)) (omega arith))
+      go (inr n) =
+          simp (n .0)
+          (rw (sym (released-last past (n .1 .1)), sym (timer-reads at w past)) (not-late past h (released-runs past (n .1 .1)) e))
