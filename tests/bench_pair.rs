@@ -201,7 +201,8 @@ impl Pair {
     fn handed_on(&mut self, call: &str, port: u8, end: usize, mark: u8, lent: [&[u8]; 2]) {
         let (_, length, _) = self.model.hand_on(port, end, mark, lent, &[0; 40]);
         let room = [length, length + 3, length.saturating_sub(1), 40][self.calls as usize % 4];
-        let mut octets: Vec<u8> = (0..room + 2 * GUARD).map(|place| (11 + 5 * place) as u8).collect();
+        let mut octets: Vec<u8> =
+            (0..room + 2 * GUARD).map(|place| (11 + 5 * place) as u8).collect();
         let inside = GUARD..GUARD + room;
         let (number, count, later) =
             self.model.hand_on(port, end, mark, lent, &octets[inside.clone()]);
