@@ -7,8 +7,9 @@ use mathlib.Core.Bool.{true, false, cond}
 use mathlib.Core.List.{List, [], _∷_, _++_}
 use lib.Dec.{eqb, leb}
 use lib.ListN.{length, take, getD}
-use Rattle.answer.specs.declared.Answer.the-variants.{Taken, Buffer, NoPort, SpduLength, NoSamples}
+use Rattle.answer.specs.declared.Answer.the-variants.{Taken, Buffer, NoPort, NotRunning, SpduLength, NoSamples}
 use Rattle.answer.specs.Answers.{isTaken}
+use Rattle.answer.specs.Rules.{answerBy}
 use Rattle.block.specs.Table22.{paramsOf}
 use Rattle.block.proofs.Arises.{good, octets-of}
 use Rattle.signature.specs.Signature as signing
@@ -294,3 +295,8 @@ is-regular = refl
 
 pub regular-turn-met : regularOf (begun .setting) (begun .live) (happening.Response 1010 read) ≡ turnOf (begun .setting) (begun .live) (happening.Response 1010 read)
 regular-turn-met = regular-turn (begun .setting) (begun .live) (happening.Response 1010 read) is-regular
+
+-- ---- answers where two rules are broken: an SPDU of another length to a port that does not run, and to a number that no port has
+pub first-broken : (answerBy Taken (calls.responseRules 2 (newPort .setting) 9 []) ≡ NotRunning) × (answerBy Taken (calls.requestRules 0 (newPort .setting) 9 []) ≡ NoPort)
+unfolding newPort
+first-broken = (refl, refl)

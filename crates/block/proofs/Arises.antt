@@ -94,3 +94,42 @@ accepted-met = accepted good 1 (octets-of good refl) refl
 
 pub in-turn-met : inTurn (blockOf good) (computed good) 1 ≡ answerBy Taken (rulesOn good 1)
 in-turn-met = in-turn good 1 refl refl
+
+-- the block whose octet k is k: each element stands at its offset of Table 22, in its width, most significant octet first
+abbrev counting : List ℕ
+counting =
+    0 ∷ 1 ∷ 2 ∷ 3 ∷ 4 ∷ 5 ∷ 6 ∷ 7 ∷ 8 ∷ 9 ∷ 10 ∷ 11 ∷ 12 ∷ 13 ∷ 14 ∷ 15 ∷ 16 ∷ 17 ∷ 18 ∷ 19 ∷ 20 ∷ 21 ∷ 22 ∷ 23
+    ∷ 24 ∷ 25 ∷ 26 ∷ 27 ∷ 28 ∷ 29 ∷ 30 ∷ 31 ∷ 32 ∷ 33 ∷ 34 ∷ 35 ∷ 36 ∷ 37 ∷ 38 ∷ 39 ∷ 40 ∷ 41 ∷ 42 ∷ 43 ∷ 44 ∷ 45 ∷ 46 ∷ 47 ∷ []
+
+pub places : paramsOf counting ≡ record {
+  PortMode = 2;
+  ValidationBackup = 3;
+  IQBehavior = 4;
+  PortCycleTime = 5;
+  VendorID = 0x0607;
+  DeviceID = 0x08090A0B;
+  InputDataLength = 12;
+  OutputDataLength = 13;
+  «FSCP_Authenticity1» = 0x0E0F1011;
+  «FSCP_Authenticity2» = 0x12131415;
+  «FSP_Port» = 22;
+  «FSP_ProtVersion» = 25;
+  «FSP_ProtMode» = 26;
+  «FSP_WatchdogTime» = 0x1B1C;
+  «FSP_TechParCRC» = 0x1F202122;
+  «IO_DescVersion» = 37;
+  SPDUInLength = 38;
+  TotalOfInBits = 39;
+  TotalOfInOctets = 40;
+  TotalOfInInt16 = 41;
+  TotalOfInInt32 = 42;
+  SPDUOutLength = 43;
+  TotalOfOutBits = 44;
+  TotalOfOutOctets = 45;
+  TotalOfOutInt16 = 46;
+  TotalOfOutInt32 = 47;
+}
+places = refl
+
+pub carried-places : (blockOf counting .ArgBlockID ≡ 0x0001) × (blockOf counting .signatures ≡ record { «FSP_AuthentCRC» = 0x1718; «FSP_IO_StructCRC» = 0x1D1E; «FSP_ProtParCRC» = 0x2324 })
+carried-places = (refl, refl)

@@ -110,3 +110,7 @@ below = ofZeros 4294967294
 pub freezes : (frozenOf below ≡ false) × ((frozenOf (countedOf below 99 0) ≡ true) × (countedOf (countedOf below 99 0) 99 99 ≡ ofZeros 4294967295))
 unfolding limit frozenOf countedOf withSample
 freezes = (refl, (refl, refl))
+
+-- the bin at its edges: of W 32 the first ms is bin 0 still, of W 31 it is bin 1; W itself is the last
+pub bins-met : (binOf 32 1 ≡ 0) × ((binOf 31 1 ≡ 1) × ((binOf 32 2 ≡ 1) × ((binOf 65535 65535 ≡ 31) × (binOf 1 1 ≡ 16))))
+bins-met = (refl, (refl, (refl, (refl, refl))))

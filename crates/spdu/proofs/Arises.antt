@@ -15,7 +15,7 @@ use Rattle.block.proofs.Arises.{good, octets-of}
 use Rattle.scl.specs.declared.Mark.the-variants.{Fresh, GoesOn, Safe, Nothing}
 use Rattle.spdu.specs.Signature.{widthOf, generatorOf, byBits}
 use Rattle.spdu.specs.Places.{carriedOf, signatureHolds}
-use Rattle.spdu.specs.Fields.{responseBy, requestBy}
+use Rattle.spdu.specs.Fields.{countIn, bit2, bit1, bit0, responseBy, requestBy}
 use Rattle.spdu.specs.Built.{controlOctet, statusOctet, spduWith}
 use Rattle.spdu.specs.Image.{handedOn}
 use Rattle.spdu.specs.Flips.{flippedSpdu}
@@ -123,3 +123,7 @@ pub each-part :
     ≡ (0x2A ∷ []) ∷ (0 ∷ []) ∷ [] ∷ [] ∷ []
 unfolding signature octet shiftInAll shiftIn
 each-part = refl
+
+-- reserved bits, 3 and 4 of a control or status octet, are in no field (R8)
+pub reserved-unread : (countIn 0x18 ≡ 0) × ((countIn 0xF8 ≡ 7) × ((bit2 0x18 ≡ false) × ((bit1 0x18 ≡ false) × (bit0 0x18 ≡ false))))
+reserved-unread = (refl, (refl, (refl, (refl, refl))))
