@@ -250,15 +250,25 @@ handed-met = record {
   device-fresh-only = handing.device-fresh-only before (happening.Request 1070 readRequest) refl;
 }
 
--- copied out: by the mark of the call that brought it, and by nothing else that may be told
+-- the port after its response, which releases at the FS-Master
+abbrev responded : Port
+responded = calls.responseAt 1 begun 1010 response safe .port
+
+-- copied out: by the mark of the call that brought it, and by nothing else that may be told: at an end that releases, not of an SPDU with one wrong
+-- octet in its signature, nor of one that is sound but has another count or another port's number
 pub record Copied : Type 0 where
-  by-response : handingAfter.Hands 1 (calls.responseAt 1 begun 1010 response safe .port) end.Master (calls.responseAt 1 begun 1010 response safe .reply .master) response safe (7 ∷ 7 ∷ []) (0x2A ∷ [])
+  by-response : handingAfter.Hands 1 responded end.Master (calls.responseAt 1 begun 1010 response safe .reply .master) response safe (7 ∷ 7 ∷ []) (0x2A ∷ [])
   by-request : handingAfter.Hands 1 port end.Device Fresh request safe (7 ∷ 7 ∷ []) (0x2A ∷ [])
   clock-in : handingAfter.Hands 1 (calls.clockAt 1 begun 1005 safe safe .port) end.Master (calls.clockAt 1 begun 1005 safe safe .reply .master) [] safe (7 ∷ []) safe
   clock-out : handingAfter.Hands 1 (calls.clockAt 1 begun 1005 safe safe .port) end.Device (calls.clockAt 1 begun 1005 safe safe .reply .device) [] safe (7 ∷ []) safe
   operator : handingAfter.Hands 1 (calls.operatorAt 1 begun 1005 true false safe .port) end.Master (calls.operatorAt 1 begun 1005 true false safe .reply .master) [] safe (7 ∷ []) safe
   not-released : handedOut 1 before end.Device Fresh request safe (7 ∷ []) ≡ 0 ∷ []
-  damaged : handedOut 1 port end.Device Fresh (spdu 0x20 0x5C 0x3B) safe (7 ∷ []) ≡ 0 ∷ []
+  damaged : handedOut 1 port end.Device Fresh (spdu 0xA0 0xDD 0x84) safe (7 ∷ []) ≡ 0 ∷ []
+  other-count : handedOut 1 port end.Device Fresh (spdu 0x80 0xAE 0x40) safe (7 ∷ []) ≡ 0 ∷ []
+  other-port : handedOut 1 port end.Device Fresh (0x2A ∷ 2 ∷ 0xA0 ∷ 0x0B ∷ 0xFA ∷ []) safe (7 ∷ []) ≡ 0 ∷ []
+  damaged-response : handedOut 1 responded end.Master Fresh (spdu 0xE0 0x3A 0x0E) safe (7 ∷ []) ≡ 0 ∷ []
+  other-count-response : handedOut 1 responded end.Master Fresh (spdu 0xC0 0x49 0xCA) safe (7 ∷ []) ≡ 0 ∷ []
+  other-port-response : handedOut 1 responded end.Master Fresh (0x2A ∷ 2 ∷ 0xE0 ∷ 0xEC ∷ 0x70 ∷ []) safe (7 ∷ []) ≡ 0 ∷ []
   other-length : handedTo 1 port end.Device Fresh [] safe 1 .answer ≡ SpduLength
   not-zero : handedTo 1 port end.Device Fresh request (0xFF ∷ []) 1 .answer ≡ Buffer
   no-room : handedTo 1 port end.Device Fresh request safe 0 .answer ≡ Buffer
@@ -274,6 +284,11 @@ copied-met = record {
   operator = handingAfter.operator-handed 1 begun 1005 true false safe (7 ∷ []) refl (omega arith);
   not-released = refl;
   damaged = refl;
+  other-count = refl;
+  other-port = refl;
+  damaged-response = refl;
+  other-count-response = refl;
+  other-port-response = refl;
   other-length = refl;
   not-zero = refl;
   no-room = refl;
