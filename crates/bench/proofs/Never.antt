@@ -27,8 +27,9 @@ use Rattle.scl.specs.declared.Happening.the-variants as happening
 use Rattle.scl.proofs.Cases.{cond-case, no}
 use Rattle.fs_master.specs.declared.Master.{Master}
 use Rattle.fs_master.specs.Table38 as table38
-use Rattle.fs_master.specs.History.{masterAfter, judgedIn}
+use Rattle.fs_master.specs.History.{masterAfter, judgedIn, Previous, previousBy, lastTaken}
 use Rattle.fs_master.proofs.Counts.{count-below, always-held}
+use Rattle.fs_master.proofs.Taken.{previous-is}
 use Rattle.fs_device.specs.declared.Device.{Device}
 use Rattle.fs_device.specs.declared.Outcome.{Outcome}
 use Rattle.fs_device.specs.declared.Row.{Row}
@@ -42,8 +43,6 @@ use Rattle.bench.specs.declared.Port.{Port}
 use Rattle.bench.specs.Ports.{newPort, portAt}
 use Rattle.bench.specs.Calls.{placed}
 use Rattle.bench.specs.History.{Call, SetParameters, ReceiveResponse, ReceiveRequest, Clock, Operator, WithoutReading, portOf, answerOf, history, Since, never, since, goesOn, extended, sinceBlock, Stands, Arising, blockIn, OctetsIn, no-call, one-more}
-use Rattle.samples.specs.Samples.{Previous, previousBy, lastTaken}
-use Rattle.samples.proofs.Samples.{previous-is}
 use Rattle.bench.proofs.Answers.{block-answer}
 use Rattle.bench.proofs.History.{stands}
 

@@ -8,7 +8,7 @@ use mathlib.Core.Bool.{Bool, true, false}
 use mathlib.Core.List.{List, [], _∷_, map}
 use lib.ListN.{drop}
 use Rattle.scl.specs.Time.{elapsedOf}
-use Rattle.scl.specs.Moved.{movedHappening}
+use Rattle.scl.specs.Moved.{movedHappening, movedPast, OnClock, none, more}
 use Rattle.scl.specs.declared.Happening.{Happening}
 use Rattle.scl.specs.declared.Happening.the-variants as happening
 use Rattle.scl.specs.declared.Response.{Response}
@@ -23,7 +23,7 @@ use Rattle.fs_master.specs.declared.Row.{Row}
 use Rattle.fs_master.specs.declared.Row.the-variants.{Stay, T4, T7, T8, T11, T12, T13, T14}
 use Rattle.fs_master.specs.Table38.{watchdogRow, isOld, isTaken, checked, from8, arrivalRow, taken, sampleFrom, t4, t7, t8, t11, t12, t13, t14, acted, signalled}
 use Rattle.fs_master.specs.Calls.{judged, quiet, arrived, received, watched, operated, stepOf}
-use Rattle.fs_master.specs.History.{FreshBy, Held, masterAfter, hasPassed, movedMaster, movedOutcome, signalsAfter, signals, Fault, None, Open, Asked, faultAfter, fault, lastTakenAt}
+use Rattle.fs_master.specs.History.{FreshBy, Held, masterAfter, judgedIn, hasPassed, movedMaster, movedOutcome, signalsAfter, signals, takenBy, faultyBy, Fault, None, Open, Pressed, Asked, answeredBy, fault, lastTakenAt, previousBy, lastTaken, isOldAfter, setWhenTaken}
 use Rattle.fs_master.specs.Regular.{isRegular}
 use Rattle.fs_master.proofs.Rows as rows
 use Rattle.fs_master.proofs.Release as release
@@ -31,32 +31,40 @@ use Rattle.fs_master.proofs.Acknowledge as acknowledge
 use Rattle.fs_master.proofs.Watchdog as watchdog
 use Rattle.fs_master.proofs.Counts as counts
 use Rattle.fs_master.proofs.Faults as faults
+use Rattle.fs_master.proofs.Taken as taking
 use Rattle.fs_master.proofs.Moved as moving
 use Rattle.fs_master.proofs.Regulars as regulars
 
--- a response of this DCount_i, with SDset, and whether port and signature hold
-abbrev response : ℕ → Bool → Bool → Bool → Response
-response count SDset port signature = record {
+-- a response of this DCount_i, with SDset, DCommErr, DTimeout, and whether port and signature hold
+abbrev response : ℕ → Bool → Bool → Bool → Bool → Bool → Response
+response count SDset DCommErr DTimeout port signature = record {
   «DCount_i» = count;
   SDset = SDset;
-  DCommErr = false;
-  DTimeout = false;
+  DCommErr = DCommErr;
+  DTimeout = DTimeout;
   «port_holds» = port;
   «signature_holds» = signature;
   «all_zero» = false;
 }
 
 abbrev good : ℕ → Response
-good count = response count false true true
+good count = response count false false false true true
 
 abbrev set : ℕ → Response
-set count = response count true true true
+set count = response count true false false true true
+
+-- the FS-Device tells an error, and a timeout
+abbrev erred : ℕ → Response
+erred count = response count false true false true true
+
+abbrev late : ℕ → Response
+late count = response count false false true true true
 
 abbrev misaddressed : ℕ → Response
-misaddressed count = response count false false true
+misaddressed count = response count false false false false true
 
 abbrev damaged : ℕ → Response
-damaged count = response count false true false
+damaged count = response count false false false true false
 
 abbrev zeros : Response
 zeros = record {
@@ -72,7 +80,12 @@ zeros = record {
 abbrev request : Request
 request = record { MCount = 1; setSD = false; ChFAckReq = false; «port_holds» = true; «signature_holds» = true; «all_zero» = false }
 
--- a call: the rows of the watchdog and of the response, the check that failed, whether it passed and was old, what is handed on, the fault after it
+-- what the control octet then carries: MCount, setSD, ChFAckReq
+pub data Sent : Type 0 where
+  sends : (MCount : ℕ) (setSD ChFAckReq : Bool) → Sent
+
+-- a call: the rows of the watchdog and of the response, the check that failed, whether it passed and was old, what is handed on, the fault after it,
+-- what is sent then
 pub record Line : Type 0 where
   happens : Happening
   watchdog : Row
@@ -82,9 +95,10 @@ pub record Line : Type 0 where
   old : Bool
   mark : Mark
   standing : Fault
+  sent : Sent
 
-abbrev line : Happening → Row → Row → Check → Bool → Bool → Mark → Fault → Line
-line h watchdog arrival failed passed old mark standing = record {
+abbrev line : Happening → Row → Row → Check → Bool → Bool → Mark → Fault → Sent → Line
+line h watchdog arrival failed passed old mark standing sent = record {
   happens = h;
   watchdog = watchdog;
   arrival = arrival;
@@ -93,29 +107,46 @@ line h watchdog arrival failed passed old mark standing = record {
   old = old;
   mark = mark;
   standing = standing;
+  sent = sent;
 }
 
 -- after a block at 0 with W 100, the latest first
 abbrev table : List Line
 table =
-    line (happening.Response 700 (good 7)) T14 T13 check.None true false Safe Asked
-    ∷ line (happening.Response 530 (good 0)) Stay T13 check.None true false Safe Asked
-    ∷ line (happening.Request 520 request) Stay Stay check.None false false Safe Open
-    ∷ line (happening.Response 510 zeros) Stay Stay check.None false false Safe Open
-    ∷ line (happening.Response 500 (good 4)) Stay Stay check.None false true Safe Open
-    ∷ line (happening.Response 490 (good 4)) Stay T12 check.Count false false Safe Open
-    ∷ line (happening.Response 480 (misaddressed 2)) Stay T12 check.Port false false Safe Open
-    ∷ line (happening.Operator 470 true false) Stay Stay check.None false false Safe Open
-    ∷ line (happening.Response 460 (good 3)) Stay T13 check.None true false Safe Open
-    ∷ line (happening.Response 450 (damaged 4)) Stay T7 check.Signature false false Safe Open
-    ∷ line (happening.Response 440 (set 5)) Stay T4 check.None true false Safe None
-    ∷ line (happening.Response 430 (good 6)) Stay T11 check.None true false Fresh None
-    ∷ line (happening.Operator 420 false true) Stay Stay check.None false false Safe Asked
-    ∷ line (happening.Response 410 (good 7)) Stay T13 check.None true true Safe Asked
-    ∷ line (happening.Clock 400) T14 Stay check.None false false Safe Open
-    ∷ line (happening.Clock 200) T8 Stay check.None false false Safe Open
-    ∷ line (happening.Clock 20) Stay Stay check.None false false GoesOn None
-    ∷ line (happening.Response 10 (good 7)) Stay T4 check.None true false Fresh None
+    line (happening.Response 700 (good 7)) T14 T13 check.None true false Safe Asked (sends 1 true true)
+    ∷ line (happening.Response 520 (late 1)) Stay T7 check.None true false Safe Open (sends 7 true false)
+    ∷ line (happening.Response 510 (good 2)) Stay T4 check.None true false Fresh None (sends 6 false false)
+    ∷ line (happening.Operator 500 false false) Stay Stay check.None false false Safe None (sends 5 true false)
+    ∷ line (happening.Response 490 (good 3)) Stay T11 check.None true false Safe None (sends 5 true false)
+    ∷ line (happening.Operator 480 true true) Stay Stay check.None false false Safe Asked (sends 4 true true)
+    ∷ line (happening.Response 470 (good 4)) Stay T13 check.None true false Safe Asked (sends 4 true true)
+    ∷ line (happening.Response 460 (late 5)) Stay T12 check.None true false Safe Open (sends 3 true false)
+    ∷ line (happening.Response 450 (erred 6)) Stay T12 check.None true false Safe Open (sends 2 true false)
+    ∷ line (happening.Response 440 (good 0)) Stay T13 check.None true false Safe Asked (sends 1 true true)
+    ∷ line (happening.Request 430 request) Stay Stay check.None false false Safe Open (sends 7 true false)
+    ∷ line (happening.Response 420 zeros) Stay Stay check.None false false Safe Open (sends 7 true false)
+    -- old, as 1 was awaited of the one before, which carried 4
+    ∷ line (happening.Response 410 (good 1)) Stay Stay check.None false true Safe Open (sends 7 true false)
+    ∷ line (happening.Response 400 (good 4)) Stay Stay check.None false true Safe Open (sends 7 true false)
+    ∷ line (happening.Response 390 (good 4)) Stay T12 check.Count false false Safe Open (sends 7 true false)
+    ∷ line (happening.Response 380 (misaddressed 2)) Stay T12 check.Port false false Safe Open (sends 6 true false)
+    ∷ line (happening.Operator 370 true false) Stay Stay check.None false false Safe Pressed (sends 5 true true)
+    ∷ line (happening.Response 360 (good 3)) Stay T13 check.None true false Safe Pressed (sends 5 true true)
+    ∷ line (happening.Response 350 (damaged 4)) Stay T7 check.Signature false false Safe Open (sends 4 true false)
+    ∷ line (happening.Response 340 (set 5)) Stay T4 check.None true false Safe None (sends 3 false false)
+    ∷ line (happening.Response 330 (good 6)) Stay T11 check.None true false Fresh None (sends 2 false false)
+    ∷ line (happening.Operator 320 false true) Stay Stay check.None false false Safe Asked (sends 1 true true)
+    -- taken though old, as MCount is 0 in state 7 (R14)
+    ∷ line (happening.Response 310 (good 7)) Stay T13 check.None true true Safe Asked (sends 1 true true)
+    ∷ line (happening.Clock 300) T14 Stay check.None false false Safe Open (sends 0 true false)
+    -- 101 ms after the response, whatever the operator did meanwhile
+    ∷ line (happening.Clock 111) T8 Stay check.None false false Safe Open (sends 0 true false)
+    ∷ line (happening.Operator 40 false false) Stay Stay check.None false false GoesOn None (sends 1 false false)
+    ∷ line (happening.Response 30 (good 7)) Stay Stay check.None false true GoesOn None (sends 1 false false)
+    ∷ line (happening.Clock 20) Stay Stay check.None false false GoesOn None (sends 1 false false)
+    ∷ line (happening.Response 10 (good 7)) Stay T4 check.None true false Fresh None (sends 1 false false)
+    -- not the one that is expected in state 2
+    ∷ line (happening.Response 5 (good 3)) Stay Stay check.None false false Safe None (sends 0 true false)
     ∷ []
 
 abbrev course : List Happening
@@ -125,15 +156,16 @@ pub seen : List Happening → List Line
 seen [] = []
 seen (h ∷ past) =
     let o = stepOf (masterAfter 0 100 past) 100 h in
-    line h (o .watchdog) (o .arrival) (o .check) (o .passed) (o .old) (o .mark) (fault 0 100 (h ∷ past)) ∷ seen past
+    let m = o .master in
+    line h (o .watchdog) (o .arrival) (o .check) (o .passed) (o .old) (o .mark) (fault 0 100 (h ∷ past)) (sends (m .MCount) (m .setSD) (m .ChFAckReq)) ∷ seen past
 
 pub course-arises : seen course ≡ table
-unfolding seen masterAfter fault faultAfter signals signalsAfter stepOf watched operated quiet received arrived judged acted t4 t7 t8 t11 t12 t13 t14 taken isOld isTaken checked from8 arrivalRow watchdogRow signalled sampleFrom elapsedOf
+unfolding judgedIn seen masterAfter fault takenBy faultyBy answeredBy signals signalsAfter stepOf watched operated quiet received arrived judged acted t4 t7 t8 t11 t12 t13 t14 taken isOld isTaken checked from8 arrivalRow watchdogRow signalled sampleFrom elapsedOf
 course-arises = refl
 
 -- the first n calls, and the FS-Master after them
 abbrev first : ℕ → List Happening
-first n = drop (18 - n) course
+first n = drop (30 - n) course
 
 abbrev after : ℕ → Master
 after n = masterAfter 0 100 (first n)
@@ -143,63 +175,75 @@ abbrev releasing : Happening
 releasing = happening.Response 10 (good 7)
 
 abbrev releasingAgain : Happening
-releasingAgain = happening.Response 430 (good 6)
+releasingAgain = happening.Response 330 (good 6)
+
+-- the first three calls are on the clock
+on-clock : OnClock (first 3)
+on-clock = more {h = happening.Clock 20} (omega arith) (more {h = releasing} (omega arith) (more {h = happening.Response 5 (good 3)} (omega arith) none))
 
 -- the theorems of these names, of calls of the course
 pub record Met : Type 0 where
-  fresh-only : FreshBy (after 0) 100 releasing
-  fresh-if : stepOf (after 0) 100 releasing .mark ≡ Fresh
-  fresh-if-again : stepOf (after 6) 100 releasingAgain .mark ≡ Fresh
-  release-begins : (stepOf (after 6) 100 releasingAgain .mark ≡ Fresh) ⊎ (after 6 .released ≡ true)
-  taken-in-2 : isTaken (after 0) (good 7) ≡ true
-  taken-later : isTaken (after 8) (damaged 4) ≡ true
-  all-zero : isTaken (after 15) zeros ≡ false
-  discarded : stepOf (after 13) 100 (happening.Response 500 (good 4)) .master ≡ judged (after 13) 100 500
-  damaged-safe : let o = stepOf (after 8) 100 (happening.Response 450 (damaged 4)) in (o .mark ≡ Safe) × (o .master .released ≡ false)
-  another-count : stepOf (after 6) 100 releasingAgain .master .MCount ≡ judged (after 6) 100 430 .MCount → ⊥
-  count-below : stepOf (after 6) 100 releasingAgain .master .MCount ≤ 7
+  fresh-only : FreshBy (after 1) 100 releasing
+  fresh-if : stepOf (after 1) 100 releasing .mark ≡ Fresh
+  fresh-if-again : stepOf (after 9) 100 releasingAgain .mark ≡ Fresh
+  release-begins : (stepOf (after 9) 100 releasingAgain .mark ≡ Fresh) ⊎ (after 9 .released ≡ true)
+  taken-in-2 : isTaken (judgedIn 0 100 (first 1) releasing) (good 7) ≡ true
+  taken-in-5 : isTaken (judgedIn 0 100 (first 3) (happening.Clock 30)) (good 7) ≡ false
+  taken-in-7 : isTaken (judgedIn 0 100 (first 17) (happening.Clock 410)) (good 1) ≡ false
+  taken-again : isTaken (judgedIn 0 100 (first 7) (happening.Clock 310)) (good 7) ≡ true
+  all-zero : isTaken (after 18) zeros ≡ false
+  discarded : stepOf (after 16) 100 (happening.Response 400 (good 4)) .master ≡ judged (after 16) 100 400
+  faulty-safe : let o = stepOf (after 11) 100 (happening.Response 350 (damaged 4)) in (o .mark ≡ Safe) × (o .master .released ≡ false)
+  reported-safe : let o = stepOf (after 28) 100 (happening.Response 520 (late 1)) in (o .mark ≡ Safe) × (o .master .released ≡ false)
+  another-count : stepOf (after 9) 100 releasingAgain .master .MCount ≡ judged (after 9) 100 330 .MCount → ⊥
+  count-below : stepOf (after 9) 100 releasingAgain .master .MCount ≤ 7
   held : Held (stepOf (after 0) 100 releasing .master)
-  in-time : watchdogRow (after 1) 100 20 ≡ Stay
-  is-regular : isRegular (after 7) 100 440 (set 5) ≡ true
-  regular-step : stepOf (after 7) 100 (happening.Response 440 (set 5)) ≡ record { master = t4 (taken (after 7) (set 5)) 440 true; watchdog = Stay; arrival = T4; check = check.None; old = false; passed = true; sent = 430; mark = Safe }
-  moved-step : stepOf (movedMaster 5 (after 1)) 100 (movedHappening 5 (happening.Clock 20)) ≡ movedOutcome 5 (stepOf (after 1) 100 (happening.Clock 20))
-  requested : after 5 .«ChFAckReq_S» ≡ true
-  acknowledged : fault 0 100 (first 7) ≡ None
-  passed-first : hasPassed 0 100 (first 1) ≡ true
-  late : after 3 .released ≡ false
-  released-in-time : elapsedOf 20 (lastTakenAt 0 100 (first 2)) ≤ 100
-  sends-safe : (after 9 .setSD ≡ true) × (after 9 .«SDset_S» ≡ true)
+  in-time : watchdogRow (after 2) 100 20 ≡ Stay
+  is-regular : isRegular (after 10) 100 340 (set 5) ≡ true
+  regular-step : stepOf (after 10) 100 (happening.Response 340 (set 5)) ≡ record { master = t4 (taken (after 10) (set 5)) 340 true; watchdog = Stay; arrival = T4; check = check.None; old = false; passed = true; sent = 330; mark = Safe }
+  moved-step : stepOf (movedMaster 5 (after 2)) 100 (movedHappening 5 (happening.Clock 20)) ≡ movedOutcome 5 (stepOf (after 2) 100 (happening.Clock 20))
+  moved-after : masterAfter 4294967281 100 (movedPast 4294967281 (first 3)) ≡ movedMaster 4294967281 (after 3)
+  acknowledged : fault 0 100 (first 10) ≡ None
+  passed-first : hasPassed 0 100 (first 2) ≡ true
+  late-silent : after 6 .released ≡ false
+  released-in-time : elapsedOf 20 (lastTakenAt 0 100 (first 3)) ≤ 100
+  sends-safe : (after 12 .setSD ≡ true) × (after 12 .«SDset_S» ≡ true)
+  sends-asked : after 26 .setSD ≡ true
 
 opened : Open ≡ None → true ≡ false
 opened e = let z : _≡_ {A = ℕ} 0 1 = cc in absurd (omega arith)
 
 pub premises-met : Met
-unfolding isRegular masterAfter fault faultAfter signals signalsAfter stepOf watched operated quiet received arrived judged acted t4 t7 t8 t11 t12 t13 t14 taken isOld isTaken checked from8 arrivalRow watchdogRow signalled sampleFrom elapsedOf
+unfolding isRegular setWhenTaken lastTaken previousBy isOldAfter judgedIn masterAfter fault takenBy faultyBy answeredBy signals signalsAfter stepOf watched operated quiet received arrived judged acted t4 t7 t8 t11 t12 t13 t14 taken isOld isTaken checked from8 arrivalRow watchdogRow signalled sampleFrom elapsedOf
 premises-met = record {
-  fresh-only = release.fresh-only (after 0) 100 releasing refl;
+  fresh-only = release.fresh-only (after 1) 100 releasing refl;
   fresh-if =
-      release.fresh-if (after 0) 100 10 (good 7)
+      release.fresh-if (after 1) 100 10 (good 7)
       (record { taken = refl; signature = refl; port = refl; count = refl; no-error = refl; no-timeout = refl; not-set = refl; not-asked = refl; acknowledged = λ e. no (sym e) });
   fresh-if-again =
-      release.fresh-if (after 6) 100 430 (good 6)
+      release.fresh-if (after 9) 100 330 (good 6)
       (record { taken = refl; signature = refl; port = refl; count = refl; no-error = refl; no-timeout = refl; not-set = refl; not-asked = refl; acknowledged = λ _. refl });
-  release-begins = release.release-begins (after 6) 100 releasingAgain refl;
-  taken-in-2 = faults.taken-in-2 (after 0) (good 7) refl refl refl;
-  taken-later = faults.taken-later (after 8) (damaged 4) refl refl refl;
-  all-zero = faults.all-zero (after 15) zeros refl;
-  discarded = faults.discarded (after 13) 100 500 (good 4) refl;
-  damaged-safe = faults.damaged-safe (after 8) 100 450 (damaged 4) refl refl;
-  another-count = counts.another-count (after 6) 100 430 (good 6) refl;
-  count-below = counts.count-below (after 6) 100 releasingAgain (omega arith);
+  release-begins = release.release-begins (after 9) 100 releasingAgain refl;
+  taken-in-2 = taking.taken-in-2 0 100 (first 1) releasing (good 7) refl;
+  taken-in-5 = taking.taken-in-5 0 100 (first 3) (happening.Clock 30) (good 7) refl;
+  taken-in-7 = taking.taken-in-7 0 100 (first 17) (happening.Clock 410) (good 1) refl;
+  taken-again = taking.taken-in-7 0 100 (first 7) (happening.Clock 310) (good 7) refl;
+  all-zero = faults.all-zero (after 18) zeros refl;
+  discarded = faults.discarded (after 16) 100 400 (good 4) refl;
+  faulty-safe = faults.faulty-safe (after 11) 100 350 (damaged 4) refl refl;
+  reported-safe = faults.faulty-safe (after 28) 100 520 (late 1) refl refl;
+  another-count = counts.another-count (after 9) 100 330 (good 6) refl;
+  count-below = counts.count-below (after 9) 100 releasingAgain (omega arith);
   held = counts.held (after 0) 100 releasing (counts.first-held 0);
-  in-time = rows.in-time (after 1) 100 20 (omega arith);
+  in-time = rows.in-time (after 2) 100 20 (omega arith);
   is-regular = refl;
-  regular-step = regulars.regular-step (after 7) 100 440 (set 5) refl;
-  moved-step = moving.moved-step 5 (after 1) 100 (happening.Clock 20) (omega arith) (omega arith);
-  requested = acknowledge.requested 0 100 (first 5) refl;
-  acknowledged = acknowledge.acknowledged 0 100 (first 7) refl;
-  passed-first = release.passed-first 0 100 (first 1) refl;
-  late = watchdog.late 0 100 (first 2) (happening.Clock 200) refl (omega arith);
-  released-in-time = watchdog.released-in-time 0 100 (first 1) (happening.Clock 20) (omega arith) refl;
-  sends-safe = acknowledge.sends-safe 0 100 (first 9) (λ e. no (opened e));
+  regular-step = regulars.regular-step (after 10) 100 340 (set 5) refl;
+  moved-step = moving.moved-step 5 (after 2) 100 (happening.Clock 20) (omega arith) (omega arith);
+  moved-after = moving.moved-after 4294967281 0 100 (omega arith) on-clock;
+  acknowledged = acknowledge.acknowledged 0 100 (first 10) refl;
+  passed-first = release.passed-first 0 100 (first 2) refl;
+  late-silent = watchdog.late 0 100 (first 5) (happening.Clock 111) refl (omega arith);
+  released-in-time = watchdog.released-in-time 0 100 (first 2) (happening.Clock 20) (omega arith) refl;
+  sends-safe = acknowledge.sends-safe 0 100 (first 12) (λ e. no (opened e));
+  sends-asked = acknowledge.sends-asked 0 100 (first 26) refl;
 }

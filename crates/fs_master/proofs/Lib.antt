@@ -2,6 +2,7 @@ pub mod Rows
 pub mod Release
 pub mod Counts
 pub mod Samples
+pub mod Taken
 pub mod Regulars
 pub mod Signals
 pub mod Watchdog

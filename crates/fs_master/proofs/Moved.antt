@@ -2,10 +2,11 @@
 use Prim.Native.Nat.{ℕ, _<_, _^_}
 use Rattle.scl.specs.Happenings.{isFailure, readingOf}
 use Rattle.scl.specs.declared.Check.{Check}
-use Rattle.scl.proofs.Cases.{cond-both}
+use Rattle.scl.proofs.Cases.{cond-case, cond-both}
 use Rattle.scl.proofs.Time.{shifted}
-use mathlib.Core.Path.{_≡_, refl}
-use mathlib.Core.Bool.{Bool, false}
+use mathlib.Core.Path.{_≡_, refl, ap}
+use mathlib.Core.Bool.{Bool, false, _||_}
+use mathlib.Core.List.{List}
 use lib.Dec.{eqb}
 use Rattle.scl.specs.declared.Happening.{Happening}
 use Rattle.scl.specs.declared.Happening.the-variants as happening
@@ -16,8 +17,10 @@ use Rattle.fs_master.specs.declared.Row.{Row}
 use Rattle.fs_master.specs.declared.Row.the-variants.{Stay, T4, T7, T8, T11, T12, T13, T14}
 use Rattle.fs_master.specs.Calls.{judged, quiet, arrived, received, watched, operated, stepOf}
 use Rattle.fs_master.specs.Table38.{watchdogRow, isOld, isTaken, hasFaults, checked, from8, arrivalRow, taken, sampleFrom, t4, t7, t8, t11, t12, t13, t14, acted, signalled, firstMaster}
-use Rattle.scl.specs.Moved.{moved, movedHappening}
-use Rattle.fs_master.specs.History.{movedMaster, movedOutcome}
+use Rattle.scl.specs.Moved.{moved, movedHappening, movedPast, OnClock, none, more}
+use Rattle.fs_master.specs.History.{masterAfter, acts, lastRow, movedMaster, movedOutcome}
+use Rattle.fs_master.proofs.Samples.{judged-start, step-start, stepOf-sent}
+use Rattle.fs_master.proofs.Watchdog.{timer-reads}
 
 module _ (k : ℕ) where
   moved-sample : (m : Master) (count at : ℕ) → sampleFrom (movedMaster k m) count (moved k at) ≡ moved k (sampleFrom m count at)
@@ -116,3 +119,46 @@ module _ (k : ℕ) where
 pub moved-first : (k at : ℕ) → firstMaster (moved k at) ≡ movedMaster k (firstMaster at)
 unfolding movedMaster
 moved-first k at = refl
+
+-- ---- every history: readings are of 32 bits, so what is stored of them is
+
+module _ (k at w : ℕ) (fits : at < 2 ^ 32) where
+  row-fits : {past : List Happening} → OnClock past → lastRow at w past < 2 ^ 32
+  unfolding lastRow
+  row-fits none = fits
+  row-fits (more {h} {past} r rest) =
+      let o = stepOf (masterAfter at w past) w h in
+      cond-case (λ (n : ℕ). n < 2 ^ 32) (acts (o .arrival) || acts (o .watchdog)) (λ _. r) (λ _. row-fits rest)
+
+  called : {past : List Happening} → OnClock past → masterAfter (moved k at) w (movedPast k past) ≡ movedMaster k (masterAfter at w past)
+      → (h : Happening) → readingOf h < 2 ^ 32
+      → stepOf (masterAfter (moved k at) w (movedPast k past)) w (movedHappening k h) ≡ movedOutcome k (stepOf (masterAfter at w past) w h)
+  called {past} rest e h r = rw e (moved-step k (masterAfter at w past) w h (rw (timer-reads at w past) (row-fits rest)) r)
+
+  -- All readings since the block moved, and the block's: the FS-Master is the same but for its readings,
+  pub moved-after : {past : List Happening} → OnClock past → masterAfter (moved k at) w (movedPast k past) ≡ movedMaster k (masterAfter at w past)
+  unfolding masterAfter movedOutcome
+  moved-after none = moved-first k at
+  moved-after (more {h} {past} r rest) = ap (λ (o : Outcome). o .master) (called rest (moved-after rest) h r)
+
+  -- and so is what each call says.
+  pub moved-call : {past : List Happening} → OnClock past → (h : Happening) → readingOf h < 2 ^ 32
+      → stepOf (masterAfter (moved k at) w (movedPast k past)) w (movedHappening k h) ≡ movedOutcome k (stepOf (masterAfter at w past) w h)
+  moved-call rest h r = called rest (moved-after rest) h r
+
+-- the start that a sample's time runs from is a reading of the history
+module _ (at w : ℕ) (fits : at < 2 ^ 32) where
+  judged-fits : (m : Master) (h : Happening) → m .sample < 2 ^ 32 → readingOf h < 2 ^ 32 → judged m w (readingOf h) .sample < 2 ^ 32
+  judged-fits m h s r =
+      rw (judged-start m w (readingOf h)) (cond-case (λ (n : ℕ). n < 2 ^ 32) (eqb (judged m w (readingOf h) .MCount) (m .MCount)) (λ _. s) (λ _. r))
+
+  sample-fits : {past : List Happening} → OnClock past → masterAfter at w past .sample < 2 ^ 32
+  unfolding masterAfter
+  sample-fits none = fits
+  sample-fits (more {h} {past} r rest) =
+      let m = masterAfter at w past in
+      rw (step-start m w h)
+      (cond-case (λ (n : ℕ). n < 2 ^ 32) (eqb (stepOf m w h .master .MCount) (judged m w (readingOf h) .MCount)) (λ _. judged-fits m h (sample-fits rest) r) (λ _. r))
+
+  pub sent-fits : {past : List Happening} → OnClock past → (h : Happening) → readingOf h < 2 ^ 32 → stepOf (masterAfter at w past) w h .sent < 2 ^ 32
+  sent-fits {past} rest h r = rw (stepOf-sent (masterAfter at w past) w h) (judged-fits (masterAfter at w past) h (sample-fits rest) r)

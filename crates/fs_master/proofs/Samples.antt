@@ -88,6 +88,13 @@ step-watchdog m w (happening.Operator at «setSD_C» «ChFAck_C») = refl
 
 -- ---- what passes
 
+-- a check fails exactly where not all three hold
+pub fails-as : (a b c : Bool) → not (a && b && c) ≡ isFailure (checkOf a b c)
+fails-as true true true = refl
+fails-as true true false = refl
+fails-as true false c = refl
+fails-as false b c = refl
+
 agrees : (a b c : Bool) → not (isFailure (checkOf a b c)) ≡ (a && b && c)
 agrees true true true = refl
 agrees true true false = refl

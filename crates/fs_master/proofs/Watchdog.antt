@@ -13,14 +13,14 @@ use Rattle.scl.specs.declared.Happening.{Happening}
 use Rattle.scl.specs.declared.Happening.the-variants as happening
 use Rattle.scl.specs.declared.Response.{Response}
 use Rattle.scl.proofs.Time.{forward}
-use Rattle.scl.proofs.Cases.{cond-case, cond-or, no, and-right}
+use Rattle.scl.proofs.Cases.{cond-case, cond-or, no, and-left, and-right}
 use Rattle.fs_master.specs.declared.Master.{Master}
 use Rattle.fs_master.specs.declared.Outcome.{Outcome}
 use Rattle.fs_master.specs.declared.Row.{Row}
 use Rattle.fs_master.specs.declared.Row.the-variants.{Stay, T8, T14}
 use Rattle.fs_master.specs.Table38.{timeoutRow, watchdogRow, isOld, isTaken, hasFaults, checked, arrivalRow, taken, t4, t7, t8, t11, t12, t13, t14, acted, signalled}
 use Rattle.fs_master.specs.Calls.{judged, quiet, arrived, received, watched, operated, stepOf}
-use Rattle.fs_master.specs.History.{masterAfter, Held, acts, lastRow, lastTakenAt}
+use Rattle.fs_master.specs.History.{masterAfter, Held, acts, lastRow, lastTakenAt, timesOut}
 use Rattle.fs_master.proofs.Rows.{timeout-case, row-case}
 use Rattle.fs_master.proofs.Counts.{always-held}
 use Rattle.fs_master.proofs.Samples.{step-watchdog}
@@ -80,9 +80,10 @@ step-timed m w (happening.Operator at «setSD_C» «ChFAck_C») = record { reads
 
 -- ---- what a call does that finds it above W
 
--- the watchdog's row then acts, and leaves state 7 with no edge awaited
-record Ended (n : Master) : Type 0 where
+-- the watchdog's row then acts, and leaves state 7 with nothing requested and no edge awaited
+pub record Ended (n : Master) : Type 0 where
   pub in7 : n .state ≡ 7
+  pub no-request : n .«ChFAckReq_S» ≡ false
   pub no-edge : n .«ChFAck_C_e» ≡ false
   pub silent : n .released ≡ false
 
@@ -93,8 +94,8 @@ late-by m at h not2 = go (eqb (m .state) 5) (eqb (m .state) 7) refl refl (h .res
     go : (in5 in7 : Bool) → eqb (m .state) 5 ≡ in5 → eqb (m .state) 7 ≡ in7 → (eqb (m .state) 2 || eqb (m .state) 5 || eqb (m .state) 7) ≡ true
         → Ended (acted m (cond in5 T8 (cond in7 T14 Stay)) at false)
     go true true e5 e7 r = absurd (omega (arith, eqb-true (m .state) 5 e5, eqb-true (m .state) 7 e7))
-    go true false e5 e7 r = record { in7 = refl; no-edge = h .no-edge e7; silent = refl }
-    go false true e5 e7 r = record { in7 = refl; no-edge = refl; silent = refl }
+    go true false e5 e7 r = record { in7 = refl; no-request = sym (h .same) ∙ h .no-request e7; no-edge = h .no-edge e7; silent = refl }
+    go false true e5 e7 r = record { in7 = refl; no-request = refl; no-edge = refl; silent = refl }
     go false false e5 e7 r = no (sym (simp (not2, e5, e7) at r))
 
 module _ (at w : ℕ) where
@@ -130,11 +131,14 @@ ended-received m r at f e =
     (λ _. ended-row m f at (hasFaults (isFailure (checked m f)) f) e)
     (λ _. e .silent)
 
-late-judged : (m : Master) (w at : ℕ) → Held m → m .runs ≡ not (eqb (m .state) 2) → m .runs ≡ true → w < elapsedOf at (m .MTimer) → Ended (judged m w at)
+pub timed-out : (m : Master) (w at : ℕ) → Held m → m .runs ≡ not (eqb (m .state) 2) → timesOut m w at ≡ true → Ended (judged m w at)
 unfolding judged watchdogRow
-late-judged m w at h outside runs late =
-    let expired : expiredOf at (m .MTimer) w ≡ true = lt-ltb w (elapsedOf at (m .MTimer)) late in
-    simp (runs, expired) (late-by m at h (not-true (eqb (m .state) 2) (sym outside ∙ runs)))
+timed-out m w at h outside e =
+    rw e (late-by m at h (not-true (eqb (m .state) 2) (sym outside ∙ and-left (m .runs) (expiredOf at (m .MTimer) w) e)))
+
+pub not-timed-out : (m : Master) (w at : ℕ) → timesOut m w at ≡ false → judged m w at ≡ m
+unfolding judged watchdogRow acted
+not-timed-out m w at e = rw e
 
 late-step : (m : Master) (w : ℕ) (h : Happening) → Ended (judged m w (readingOf h)) → stepOf m w h .master .released ≡ false
 unfolding stepOf watched operated quiet signalled
@@ -149,7 +153,7 @@ pub late : (at w : ℕ) (past : List Happening) (h : Happening) → let m = mast
 unfolding masterAfter
 late at w past h runs over =
     let m = masterAfter at w past in
-    late-step m w h (late-judged m w (readingOf h) (always-held at w past) (timer-runs at w past) runs over)
+    late-step m w h (timed-out m w (readingOf h) (always-held at w past) (timer-runs at w past) (simp (runs, lt-ltb w (elapsedOf (readingOf h) (m .MTimer)) over)))
 
 -- ---- so nothing is released longer than W after the last SPDU that was taken
 

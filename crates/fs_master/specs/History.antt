@@ -4,7 +4,8 @@ use mathlib.Core.Path.{_≡_}
 use mathlib.Core.Bool.{Bool, true, false, cond, not, _&&_, _||_}
 use mathlib.Core.List.{List, [], _∷_}
 use lib.Dec.{eqb}
-use Rattle.scl.specs.Counts.{countAfter}
+use Rattle.scl.specs.Time.{expiredOf}
+use Rattle.scl.specs.Counts.{countAfter, inverted}
 use Rattle.scl.specs.Happenings.{readingOf}
 use Rattle.scl.specs.Moved.{moved}
 use Rattle.scl.specs.declared.Happening.{Happening}
@@ -85,35 +86,7 @@ signals (h ∷ past) = signalsAfter h (signals past)
 abbrev pub HoldsSignals : Signals → Master → Type 0
 HoldsSignals s m = (m .«setSD_C» ≡ s .«setSD_C») × (m .«ChFAck_C» ≡ s .«ChFAck_C»)
 
--- 01: "after a fault, and with no new accepted block, values return only once ChFAck_C followed ChFAckReq_S". Where that stands: no fault is
--- open; one is; ChFAckReq_S was set while ChFAck_C was 0, so that ChFAck_C 1 follows it.
-pub data Fault : Type 0 where
-  None : Fault
-  Open : Fault
-  Asked : Fault
-
--- after a row, with the ChFAck_C that stands: T7, T8, T12 and T14 are faults, T13 sets ChFAckReq_S, T11 ends a fault
-unfoldable pub faultAfter : Row → Bool → Fault → Fault
-faultAfter Stay «ChFAck_C» s = s
-faultAfter T4 «ChFAck_C» s = s
-faultAfter T7 «ChFAck_C» s = Open
-faultAfter T8 «ChFAck_C» s = Open
-faultAfter T11 «ChFAck_C» None = None
-faultAfter T11 «ChFAck_C» Open = Open
-faultAfter T11 «ChFAck_C» Asked = cond «ChFAck_C» None Asked
-faultAfter T12 «ChFAck_C» s = Open
-faultAfter T13 «ChFAck_C» None = None
-faultAfter T13 «ChFAck_C» Open = cond «ChFAck_C» Open Asked
-faultAfter T13 «ChFAck_C» Asked = Asked
-faultAfter T14 «ChFAck_C» s = Open
-
--- after the rows of all calls since the block, the watchdog's before the arrival's
-unfoldable pub fault : ℕ → ℕ → List Happening → Fault
-fault at w [] = None
-fault at w (h ∷ past) =
-    let o = stepOf (masterAfter at w past) w h in
-    let acknowledges = signals past .«ChFAck_C» in
-    faultAfter (o .arrival) acknowledges (faultAfter (o .watchdog) acknowledges (fault at w past))
+-- ---- Rows that act
 
 -- a row acts, and restarts MTimer (T5 and T9 stand behind it)
 abbrev pub acts : Row → Bool
@@ -137,6 +110,99 @@ lastRow at w (h ∷ past) =
 unfoldable pub lastTakenAt : ℕ → ℕ → List Happening → ℕ
 lastTakenAt at w [] = at
 lastTakenAt at w (h ∷ past) = cond (acts (stepOf (masterAfter at w past) w h .arrival)) (readingOf h) (lastTakenAt at w past)
+
+-- ---- Faults and their acknowledgement
+
+-- FAULTS (000 Table 37): MTimeout, "timeout when waiting on an FS-Device SPDU response";
+abbrev pub timesOut : Master → ℕ → ℕ → Bool
+timesOut m w at = m .runs && expiredOf at (m .MTimer) w
+
+-- of a response MCommErr, "corrupted .. (incl. counter/port error)", DCommErr and DTimeout, "reported"
+abbrev pub isFaulty : Master → Response → Bool
+isFaulty m f = not (sound m f) || f .DCommErr || f .DTimeout
+
+-- a response is taken, and one with FAULTS is, at an FS-Master whose watchdog has been judged
+unfoldable pub takenBy : Master → Happening → Bool
+takenBy m (happening.Response at f) = isTaken m f
+takenBy m (happening.Request at q) = false
+takenBy m (happening.Clock at) = false
+takenBy m (happening.Operator at «setSD_C» «ChFAck_C») = false
+
+unfoldable pub faultyBy : Master → Happening → Bool
+faultyBy m (happening.Response at f) = isTaken m f && isFaulty m f
+faultyBy m (happening.Request at q) = false
+faultyBy m (happening.Clock at) = false
+faultyBy m (happening.Operator at «setSD_C» «ChFAck_C») = false
+
+-- 01: "after a fault, and with no new accepted block, values return only once ChFAck_C followed ChFAckReq_S". Where that stands: no fault is
+-- open; one is; ChFAckReq_S is 1, but ChFAck_C has been 1 since; ChFAckReq_S is 1 and ChFAck_C was 0 meanwhile, so that a 1 follows.
+pub data Fault : Type 0 where
+  None : Fault
+  Open : Fault
+  Pressed : Fault
+  Asked : Fault
+
+-- a response without FAULTS sets ChFAckReq_S, or finds the acknowledgement
+unfoldable pub answeredBy : Bool → Fault → Fault
+answeredBy «ChFAck_C» None = None
+answeredBy «ChFAck_C» Open = cond «ChFAck_C» Pressed Asked
+answeredBy «ChFAck_C» Pressed = cond «ChFAck_C» Pressed Asked
+answeredBy «ChFAck_C» Asked = cond «ChFAck_C» None Asked
+
+-- after all that happened since the block; of one call MTimeout comes first
+unfoldable pub fault : ℕ → ℕ → List Happening → Fault
+fault at w [] = None
+fault at w (h ∷ past) =
+    let m = judgedIn at w past h in
+    let before = cond (timesOut (masterAfter at w past) w (readingOf h)) Open (fault at w past) in
+    cond (faultyBy m h) Open (cond (takenBy m h) (answeredBy (signals past .«ChFAck_C») before) before)
+
+-- the rows of FAULTS
+abbrev pub opens : Row → Bool
+opens Stay = false
+opens T4 = false
+opens T7 = true
+opens T8 = true
+opens T11 = false
+opens T12 = true
+opens T13 = false
+opens T14 = true
+
+-- ChFAckReq_S stands
+abbrev pub isRequested : Fault → Bool
+isRequested None = false
+isRequested Open = false
+isRequested Pressed = true
+isRequested Asked = true
+
+-- ---- The previous SPDU
+
+-- "the last one taken to a check": whether there was one, the DCount_i it carried and the MCount that stood (R14)
+pub record Previous : Type 0 where
+  pub previous : Bool
+  pub carried : ℕ
+  pub stood : ℕ
+
+unfoldable pub previousBy : Master → Happening → Previous → Previous
+previousBy m (happening.Response at f) r = cond (isTaken m f) (record { previous = true; carried = f .«DCount_i»; stood = m .MCount }) r
+previousBy m (happening.Request at q) r = r
+previousBy m (happening.Clock at) r = r
+previousBy m (happening.Operator at «setSD_C» «ChFAck_C») r = r
+
+-- before any, the FS-Master keeps 0 for both counts, as the mirror of 7 is 0, and does not read them
+unfoldable pub lastTaken : ℕ → ℕ → List Happening → Previous
+lastTaken at w [] = record { previous = false; carried = 0; stood = 7 }
+lastTaken at w (h ∷ past) = previousBy (judgedIn at w past h) h (lastTaken at w past)
+
+-- R14: old is a DCount_i that the previous SPDU carried, or that was awaited of it; an SPDU of zeros alone is ignored (R12)
+unfoldable pub isOldAfter : Previous → Response → Bool
+isOldAfter r f =
+    not (f .«all_zero») && r .previous && (eqb (f .«DCount_i») (r .carried) || eqb (f .«DCount_i») (inverted (r .stood)))
+
+-- the setSD_C that stood when the last response was taken; before any, SD is used (000 Table 38, T1)
+unfoldable pub setWhenTaken : ℕ → ℕ → List Happening → Bool
+setWhenTaken at w [] = true
+setWhenTaken at w (h ∷ past) = cond (takenBy (judgedIn at w past h) h) (signals past .«setSD_C») (setWhenTaken at w past)
 
 -- ---- What holds of one call
 

@@ -38,7 +38,7 @@ tallied-parts a bins w anew t = go (anew && leb t w)
 
 -- a happening counts where it is a sample
 module _ (at w : ℕ) (past : List Happening) (h : Happening) where
-  counts : (k : Histogram) → stepped k (masterAfter at w past) w h ≡ cond (isSample at w past h) (countedOf k w (timeOf at w past h)) k
+  pub counts : (k : Histogram) → stepped k (masterAfter at w past) w h ≡ cond (isSample at w past h) (countedOf k w (timeOf at w past h)) k
   unfolding tallied
   counts k =
       let o = masters.stepOf (masterAfter at w past) w h in

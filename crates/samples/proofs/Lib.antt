@@ -1,2 +1,4 @@
 pub mod Samples
 pub mod Counted
+pub mod Wrap
+pub mod Arises

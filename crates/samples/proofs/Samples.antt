@@ -3,21 +3,25 @@ use Prim.Native.Nat.{ℕ}
 use mathlib.Core.Path.{_≡_, refl, sym, ap, _∙_}
 use mathlib.Core.Bool.{Bool, true, false, cond, not, _&&_, _||_}
 use mathlib.Core.List.{List, [], _∷_}
+use mathlib.Core.Logic.{_⊎_, inl, inr}
 use lib.Dec.{eqb, leb}
-use borrow.Author.Tests.{eqb-true}
+use borrow.Author.Tests.{eqb-true, eq-eqb}
 use Rattle.scl.specs.Time.{elapsedOf}
 use Rattle.scl.specs.Counts.{inverted}
 use Rattle.scl.specs.Happenings.{readingOf}
 use Rattle.scl.specs.declared.Happening.{Happening}
 use Rattle.scl.specs.declared.Happening.the-variants as happening
-use Rattle.scl.proofs.Cases.{cond-case, and-left}
+use Rattle.scl.specs.declared.Response.{Response}
+use Rattle.scl.proofs.Cases.{cond-case, and-left, or-second}
 use Rattle.fs_master.specs.declared.Master.{Master}
-use Rattle.fs_master.specs.Table38.{isTaken, signalled}
+use Rattle.fs_master.specs.Table38.{isTaken}
 use Rattle.fs_master.specs.Calls.{judged, quiet, watched, operated, stepOf}
-use Rattle.fs_master.specs.History.{sound, masterAfter, judgedIn, passesBy}
+use Rattle.fs_master.specs.History.{sound, masterAfter, judgedIn, passesBy, Previous, lastTaken, isOldAfter}
 use Rattle.fs_master.proofs.Counts.{another-count}
-use Rattle.fs_master.proofs.Samples.{judged-start, step-start, passes-as, step-old, Kept, judged-kept, response-kept}
-use Rattle.samples.specs.Samples.{oldBy, whileSame, sentSince, answered, timeOf, isSample, Previous, previousBy, lastTaken}
+use Rattle.fs_master.proofs.Samples.{judged-start, step-start, passes-as, step-old}
+use Rattle.fs_master.proofs.Faults.{all-zero}
+use Rattle.fs_master.proofs.Taken.{old-is}
+use Rattle.samples.specs.Samples.{oldBy, whileSame, sentSince, answered, timeOf, isSample}
 
 module _ (at w : ℕ) where
   -- ---- the stored start is the reading of the last call since the block in which MCount took another value, or the block's
@@ -30,33 +34,14 @@ module _ (at w : ℕ) where
       (judged-start (masterAfter at w past) w (readingOf h)
       ∙ ap (λ (s : ℕ). whileSame (masterAfter at w past .MCount) (judgedIn at w past h .MCount) s (readingOf h)) (start-is past))
 
-  -- ---- the stored previous counts are those of the last SPDU taken
-  kept-by : (m : Master) (h : Happening) (r : Previous) → Kept (r .previous) (r .carried) (inverted (r .stood)) m
-      → Kept (previousBy (judged m w (readingOf h)) h r .previous) (previousBy (judged m w (readingOf h)) h r .carried) (inverted (previousBy (judged m w (readingOf h)) h r .stood)) (stepOf m w h .master)
-  unfolding previousBy stepOf watched operated quiet signalled judged
-  kept-by m (happening.Response at f) r k = go (isTaken (judged m w at) f) (response-kept m w at f k)
-    where
-      go : (b : Bool) → Kept (cond b true (r .previous)) (cond b (f .«DCount_i») (r .carried)) (cond b (inverted (judged m w at .MCount)) (inverted (r .stood))) (stepOf m w (happening.Response at f) .master)
-          → Kept (cond b (record { previous = true; carried = f .«DCount_i»; stood = judged m w at .MCount }) r .previous) (cond b (record { previous = true; carried = f .«DCount_i»; stood = judged m w at .MCount }) r .carried) (inverted (cond b (record { previous = true; carried = f .«DCount_i»; stood = judged m w at .MCount }) r .stood)) (stepOf m w (happening.Response at f) .master)
-      go true z = z
-      go false z = z
-  kept-by m (happening.Request at q) r k = judged-kept m w at k
-  kept-by m (happening.Clock at) r k = judged-kept m w at k
-  kept-by m (happening.Operator at «setSD_C» «ChFAck_C») r k =
-      let j = judged-kept m w at k in record { previous-is = j .previous-is; carried-is = j .carried-is; awaited-is = j .awaited-is }
-
-  pub previous-is : (past : List Happening) → Kept (lastTaken at w past .previous) (lastTaken at w past .carried) (inverted (lastTaken at w past .stood)) (masterAfter at w past)
-  unfolding masterAfter lastTaken judgedIn
-  previous-is [] = record { previous-is = refl; carried-is = refl; awaited-is = refl }
-  previous-is (h ∷ past) = kept-by (masterAfter at w past) h (lastTaken at w past) (previous-is past)
-
   -- ---- what is old, as the FS-Master's outcome says it
-  old-as : (m : Master) (h : Happening) → oldBy (judged m w (readingOf h)) h ≡ stepOf m w h .old
-  unfolding oldBy stepOf watched operated quiet
-  old-as m (happening.Response at f) = sym (step-old m w at f)
-  old-as m (happening.Request at q) = refl
-  old-as m (happening.Clock at) = refl
-  old-as m (happening.Operator at «setSD_C» «ChFAck_C») = refl
+  old-as : (past : List Happening) (h : Happening) → oldBy (lastTaken at w past) h ≡ stepOf (masterAfter at w past) w h .old
+  unfolding oldBy stepOf watched operated quiet judgedIn
+  old-as past (happening.Response at' f) =
+      sym (step-old (masterAfter at w past) w at' f ∙ old-is at w past (happening.Response at' f) f)
+  old-as past (happening.Request at' q) = refl
+  old-as past (happening.Clock at') = refl
+  old-as past (happening.Operator at' «setSD_C» «ChFAck_C») = refl
 
   -- ---- no count that stands has been answered: a response that passes is followed by another count
   passes-no : (m : Master) (h : Happening) → stepOf m w h .master .MCount ≡ judged m w (readingOf h) .MCount → passesBy (judged m w (readingOf h)) h ≡ false
@@ -104,4 +89,30 @@ module _ (at w : ℕ) where
   unfolding isSample judgedIn
   sample-is past h =
       let m = masterAfter at w past in
-      rw (kept-no (m .MCount) (judgedIn at w past h .MCount) (answered at w past) (not-answered past), passes-as m w h, old-as m h) (shuffled (stepOf m w h .passed) (stepOf m w h .old) (leb (timeOf at w past h) w))
+      rw (kept-no (m .MCount) (judgedIn at w past h .MCount) (answered at w past) (not-answered past), passes-as m w h, old-as past h) (shuffled (stepOf m w h .passed) (stepOf m w h .old) (leb (timeOf at w past h) w))
+
+  -- ---- "A repeated response isn't a second sample": one with the count that the last one taken carried, or that was awaited of it
+  none : (a b : Bool) → (a && false && b) ≡ false
+  none true b = refl
+  none false b = refl
+
+  old-again : (r : Previous) (f : Response) → r .previous ≡ true → f .«all_zero» ≡ false
+      → (f .«DCount_i» ≡ r .carried) ⊎ (f .«DCount_i» ≡ inverted (r .stood)) → isOldAfter r f ≡ true
+  unfolding isOldAfter
+  old-again r f p z (inl e) = simp (p, z, eq-eqb (f .«DCount_i») (r .carried) e)
+  old-again r f p z (inr e) = simp (p, z, eq-eqb (f .«DCount_i») (inverted (r .stood)) e) (or-second (eqb (f .«DCount_i») (r .carried)) true refl)
+
+  pub repeated : (past : List Happening) (reading : ℕ) (f : Response) → let last = lastTaken at w past in
+      last .previous ≡ true → (f .«DCount_i» ≡ last .carried) ⊎ (f .«DCount_i» ≡ inverted (last .stood)) → isSample at w past (happening.Response reading f) ≡ false
+  unfolding isSample oldBy passesBy
+  repeated past reading f p e = go (f .«all_zero») refl
+    where
+      h : Happening
+      h = happening.Response reading f
+
+      go : (zero : Bool) → f .«all_zero» ≡ zero → isSample at w past h ≡ false
+      go true z = simp (all-zero (judgedIn at w past h) f z)
+      go false z =
+          let j = judgedIn at w past h in
+          let first = not (whileSame (masterAfter at w past .MCount) (j .MCount) (answered at w past) false) in
+          rw (old-again (lastTaken at w past) f p z e) (none (passesBy j h && first) (leb (timeOf at w past h) w))

@@ -8,21 +8,19 @@ use Rattle.scl.specs.Time.{elapsedOf}
 use Rattle.scl.specs.Happenings.{readingOf}
 use Rattle.scl.specs.declared.Happening.{Happening}
 use Rattle.scl.specs.declared.Happening.the-variants as happening
-use Rattle.fs_master.specs.declared.Master.{Master}
-use Rattle.fs_master.specs.Table38 as table38
-use Rattle.fs_master.specs.History.{masterAfter, judgedIn, passesBy}
+use Rattle.fs_master.specs.History.{masterAfter, judgedIn, passesBy, Previous, lastTaken, isOldAfter}
 use Rattle.histogram.specs.declared.Histogram.{Histogram}
 use Rattle.histogram.specs.Counted.{clearedOf}
 use Rattle.samples.specs.Tallied.{stepped}
 
 -- ---- Samples: "A sample is the first response that passes for each count sent, with elapsed t at most W, in any state."
 
--- "A repeated response isn't a second sample" (R14a)
-unfoldable pub oldBy : Master → Happening → Bool
-oldBy m (happening.Response at f) = table38.isOld m f
-oldBy m (happening.Request at q) = false
-oldBy m (happening.Clock at) = false
-oldBy m (happening.Operator at «setSD_C» «ChFAck_C») = false
+-- "A repeated response isn't a second sample" (R14a): one that is old by the last one taken
+unfoldable pub oldBy : Previous → Happening → Bool
+oldBy r (happening.Response at f) = isOldAfter r f
+oldBy r (happening.Request at q) = false
+oldBy r (happening.Clock at) = false
+oldBy r (happening.Operator at «setSD_C» «ChFAck_C») = false
 
 -- what is kept while a count stays, and begins anew where it takes another value
 abbrev pub whileSame : {A : Type 0} → ℕ → ℕ → A → A → A
@@ -59,7 +57,7 @@ isSample at w past h =
     let before = masterAfter at w past .MCount in
     let judged = judgedIn at w past h .MCount in
     let first = not (whileSame before judged (answered at w past) false) in
-    passesBy (judgedIn at w past h) h && first && not (oldBy (judgedIn at w past h) h) && leb (timeOf at w past h) w
+    passesBy (judgedIn at w past h) h && first && not (oldBy (lastTaken at w past) h) && leb (timeOf at w past h) w
 
 -- the samples, here the first first
 unfoldable pub samples : ℕ → ℕ → List Happening → List ℕ
@@ -70,21 +68,3 @@ samples at w (h ∷ past) = samples at w past ++ cond (isSample at w past h) (ti
 unfoldable pub histogramAfter : ℕ → ℕ → List Happening → Histogram
 histogramAfter at w [] = clearedOf
 histogramAfter at w (h ∷ past) = stepped (histogramAfter at w past) (masterAfter at w past) w h
-
--- ---- The previous SPDU, "the last one taken to a check": whether there was one, the DCount_i it carried and the MCount that stood (R14)
-
-pub record Previous : Type 0 where
-  pub previous : Bool
-  pub carried : ℕ
-  pub stood : ℕ
-
-unfoldable pub previousBy : Master → Happening → Previous → Previous
-previousBy m (happening.Response at f) r = cond (table38.isTaken m f) (record { previous = true; carried = f .«DCount_i»; stood = m .MCount }) r
-previousBy m (happening.Request at q) r = r
-previousBy m (happening.Clock at) r = r
-previousBy m (happening.Operator at «setSD_C» «ChFAck_C») r = r
-
--- before any, the FS-Master keeps 0 for both counts, as the mirror of 7 is 0, and does not read them
-unfoldable pub lastTaken : ℕ → ℕ → List Happening → Previous
-lastTaken at w [] = record { previous = false; carried = 0; stood = 7 }
-lastTaken at w (h ∷ past) = previousBy (judgedIn at w past h) h (lastTaken at w past)
