@@ -1,6 +1,6 @@
 -- Which response is taken (R12, R14), by what happened since the block. Assumes nothing.
 use Prim.Native.Nat.{ℕ}
-use mathlib.Core.Path.{_≡_, refl, sym, ap}
+use mathlib.Core.Path.{_≡_, refl, ap, _∙_}
 use mathlib.Core.Bool.{Bool, true, false, cond, not, _&&_, _||_}
 use mathlib.Core.List.{List, [], _∷_}
 use lib.Dec.{eqb}
@@ -16,16 +16,34 @@ use Rattle.fs_master.specs.Calls.{judged, quiet, watched, operated, step
 use Rattle.fs_master.specs.History.{masterAfter, judgedIn, Previous, previousBy, lastTaken, isOldAfter}
 use Rattle.fs_master.proofs.Samples.{Kept, judged-kept, response-kept}
 
--- where one of three tests holds, the choice is its arm
-first-arm : (zero a b c : Bool) → (not zero && (true && a || false && b || false && c)) ≡ (not zero && a)
-first-arm true a b c = refl
-first-arm false true b c = refl
-first-arm false false b c = refl
+-- where one of three tests holds and the others do not, the choice is its arm
+abbrev choice : Bool → Bool → Bool → Bool → Bool → Bool → Bool → Bool
+choice zero in2 a in5 b in7 c = not zero && (in2 && a || in5 && b || in7 && c)
 
-second-arm : (zero a b c : Bool) → (not zero && (false && a || true && b || false && c)) ≡ (not zero && b)
-second-arm true a b c = refl
-second-arm false a true c = refl
-second-arm false a false c = refl
+first-arm : (zero a b c : Bool) {in2 in5 in7 : Bool} → in2 ≡ true → in5 ≡ false → in7 ≡ false → choice zero in2 a in5 b in7 c ≡ (not zero && a)
+first-arm zero a b c e2 e5 e7 = rw (e2, e5, e7) (go zero a)
+  where
+    go : (zero a : Bool) → choice zero true a false b false c ≡ (not zero && a)
+    go true a = refl
+    go false true = refl
+    go false false = refl
+
+second-arm : (zero a b c : Bool) {in2 in5 in7 : Bool} → in2 ≡ false → in5 ≡ true → in7 ≡ false → choice zero in2 a in5 b in7 c ≡ (not zero && b)
+second-arm zero a b c e2 e5 e7 = rw (e2, e5, e7) (go zero b)
+  where
+    go : (zero b : Bool) → choice zero false a true b false c ≡ (not zero && b)
+    go true b = refl
+    go false true = refl
+    go false false = refl
+
+third-arm : (zero a b c : Bool) {in2 in5 in7 : Bool} → in2 ≡ false → in5 ≡ false → in7 ≡ true → choice zero in2 a in5 b in7 c ≡ (not zero && c)
+third-arm zero a b c e2 e5 e7 = rw (e2, e5, e7)
+
+-- old by what is kept of the previous SPDU
+kept-old : (m : Master) (f : Response) (r : Previous) → Kept (r .previous) (r .carried) (inverted (r .stood)) m
+    → (not (f .«all_zero») && m .previous && (eqb (f .«DCount_i») (m .carried) || eqb (f .«DCount_i») (m .awaited))) ≡ isOldAfter r f
+unfolding isOldAfter
+kept-old m f r k = rw (k .previous-is, k .carried-is, k .awaited-is)
 
 module _ (at w : ℕ) where
   kept-by : (m : Master) (h : Happening) (r : Previous) → Kept (r .previous) (r .carried) (inverted (r .stood)) m
@@ -57,27 +75,33 @@ module _ (at w : ℕ) where
 
     -- Old is what the last SPDU taken makes old.
     pub old-is : isOld m f ≡ old
-    unfolding isOld isOldAfter judgedIn
-    old-is = let k = judged-kept (masterAfter at w past) w (readingOf h) (previous-is past) in rw (k .previous-is, k .carried-is, k .awaited-is)
+    unfolding isOld judgedIn
+    old-is = kept-old m f (lastTaken at w past) (judged-kept (masterAfter at w past) w (readingOf h) (previous-is past))
 
     in-state : (s : ℕ) → eqb (m .state) s ≡ true → (n : ℕ) → eqb (m .state) n ≡ eqb s n
     in-state s e n = ap (λ (x : ℕ). eqb x n) (eqb-true (m .state) s e)
 
+    abbrev expected : Bool
+    expected = isExpected m f
+
+    abbrev again : Bool
+    again = not (isOld m f) || eqb (m .MCount) 0 && expected
+
     -- In 2 the expected one is taken; an SPDU of zeros alone never is.
-    pub taken-in-2 : eqb (m .state) 2 ≡ true → isTaken m f ≡ (not (f .«all_zero») && isExpected m f)
+    pub taken-in-2 : eqb (m .state) 2 ≡ true → isTaken m f ≡ (not (f .«all_zero») && expected)
     unfolding isTaken
-    taken-in-2 e =
-        rw (in-state 2 e 2, in-state 2 e 5, in-state 2 e 7)
-        (first-arm (f .«all_zero») (isExpected m f) (not (isOld m f)) (not (isOld m f) || eqb (m .MCount) 0 && isExpected m f))
+    taken-in-2 e = first-arm (f .«all_zero») expected (not (isOld m f)) again e (in-state 2 e 5) (in-state 2 e 7)
 
     -- In 5 one that is not old is,
     pub taken-in-5 : eqb (m .state) 5 ≡ true → isTaken m f ≡ (not (f .«all_zero») && not old)
     unfolding isTaken
     taken-in-5 e =
-        rw (in-state 5 e 2, in-state 5 e 5, in-state 5 e 7, sym old-is)
-        (second-arm (f .«all_zero») (isExpected m f) (not (isOld m f)) (not (isOld m f) || eqb (m .MCount) 0 && isExpected m f))
+        second-arm (f .«all_zero») expected (not (isOld m f)) again (in-state 5 e 2) e (in-state 5 e 7)
+        ∙ ap (λ (b : Bool). not (f .«all_zero») && not b) old-is
 
     -- and in 7, where also the expected one is once MCount is 0 again.
-    pub taken-in-7 : eqb (m .state) 7 ≡ true → isTaken m f ≡ (not (f .«all_zero») && (not old || eqb (m .MCount) 0 && isExpected m f))
+    pub taken-in-7 : eqb (m .state) 7 ≡ true → isTaken m f ≡ (not (f .«all_zero») && (not old || eqb (m .MCount) 0 && expected))
     unfolding isTaken
-    taken-in-7 e = rw (in-state 7 e 2, in-state 7 e 5, in-state 7 e 7, sym old-is)
+    taken-in-7 e =
+        third-arm (f .«all_zero») expected (not (isOld m f)) again (in-state 7 e 2) (in-state 7 e 5) e
+        ∙ ap (λ (b : Bool). not (f .«all_zero») && (not b || eqb (m .MCount) 0 && expected)) old-is

@@ -80,16 +80,20 @@ module _ (at w : ℕ) where
       ∙ ap (λ (s : ℕ). whileSame (m .MCount) (judgedIn at w past h .MCount) s (readingOf h)) (start-is past))
 
   -- ---- a sample
-  shuffled : (a b c : Bool) → (a && true && not b && c) ≡ ((a && not b) && c)
-  shuffled true true c = refl
-  shuffled true false c = refl
-  shuffled false b c = refl
+  sample-by : (c : Bool) {a a' b o o' : Bool} → a ≡ a' → b ≡ false → o ≡ o' → (a && not b && not o && c) ≡ ((a' && not o') && c)
+  sample-by c {a' = a'} {o' = o'} e f g = rw (e, f, g) (go a' o')
+    where
+      go : (a o : Bool) → (a && true && not o && c) ≡ ((a && not o) && c)
+      go true true = refl
+      go true false = refl
+      go false o = refl
 
   pub sample-is : (past : List Happening) (h : Happening) → isSample at w past h ≡ ((stepOf (masterAfter at w past) w h .passed && not (stepOf (masterAfter at w past) w h .old)) && leb (timeOf at w past h) w)
   unfolding isSample judgedIn
   sample-is past h =
       let m = masterAfter at w past in
-      rw (kept-no (m .MCount) (judgedIn at w past h .MCount) (answered at w past) (not-answered past), passes-as m w h, old-as past h) (shuffled (stepOf m w h .passed) (stepOf m w h .old) (leb (timeOf at w past h) w))
+      sample-by (leb (timeOf at w past h) w) (passes-as m w h)
+      (kept-no (m .MCount) (judgedIn at w past h .MCount) (answered at w past) (not-answered past)) (old-as past h)
 
   -- ---- "A repeated response isn't a second sample": one with the count that the last one taken carried, or that was awaited of it
   none : (a b : Bool) → (a && false && b) ≡ false
