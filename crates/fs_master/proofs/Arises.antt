@@ -21,9 +21,9 @@ use Rattle.scl.proofs.Cases.{no}
 use Rattle.fs_master.specs.declared.Master.{Master}
 use Rattle.fs_master.specs.declared.Row.{Row}
 use Rattle.fs_master.specs.declared.Row.the-variants.{Stay, T4, T7, T8, T11, T12, T13, T14}
-use Rattle.fs_master.specs.Table38.{watchdogRow, isOld, isTaken, checked, from8, arrivalRow, taken, sampleFrom, t4, t7, t8, t11, t12, t13, t14, acted, signalled}
+use Rattle.fs_master.specs.Table38.{watchdogRow, isOld, isTaken, checked, from8, arrivalRow, taken, sampleFrom, t4, t7, t8, t11, t12, t13, t14, acted, signalled, rowNumberOf}
 use Rattle.fs_master.specs.Calls.{judged, quiet, arrived, received, watched, operated, stepOf}
-use Rattle.fs_master.specs.History.{FreshBy, Held, masterAfter, judgedIn, hasPassed, movedMaster, movedOutcome, signalsAfter, signals, takenBy, faultyBy, Fault, None, Open, Pressed, Asked, answeredBy, fault, lastTakenAt, previousBy, lastTaken, isOldAfter, setWhenTaken}
+use Rattle.fs_master.specs.History.{FreshBy, Held, masterAfter, judgedIn, passesBy, hasPassed, movedMaster, movedOutcome, signalsAfter, signals, takenBy, faultyBy, Fault, None, Open, Pressed, Asked, answeredBy, fault, lastRow, lastTakenAt, previousBy, lastTaken, isOldAfter, setWhenTaken}
 use Rattle.fs_master.specs.Regular.{isRegular}
 use Rattle.fs_master.proofs.Rows as rows
 use Rattle.fs_master.proofs.Release as release
@@ -209,6 +209,18 @@ pub record Met : Type 0 where
   released-in-time : elapsedOf 20 (lastTakenAt 0 100 (first 3)) ≤ 100
   sends-safe : (after 12 .setSD ≡ true) × (after 12 .«SDset_S» ≡ true)
   sends-asked : after 26 .setSD ≡ true
+
+-- what the theorems' words come to: nothing has passed before the first response that does; only a response that is taken moves the reading of the
+-- last one, neither the clock nor one that is old; and the numbers of the rows outside are 000's
+pub record Words : Type 0 where
+  not-yet : hasPassed 0 100 (first 1) ≡ false
+  taken-at : lastTakenAt 0 100 (first 5) ≡ 10
+  row-at : lastRow 0 100 (first 6) ≡ 111
+  numbers : map rowNumberOf (Stay ∷ T4 ∷ T7 ∷ T8 ∷ T11 ∷ T12 ∷ T13 ∷ T14 ∷ []) ≡ 0 ∷ 4 ∷ 7 ∷ 8 ∷ 11 ∷ 12 ∷ 13 ∷ 14 ∷ []
+
+pub words : Words
+unfolding hasPassed passesBy lastTakenAt lastRow judgedIn masterAfter stepOf watched operated quiet received arrived judged acted t4 t8 taken isOld isTaken checked from8 arrivalRow watchdogRow signalled sampleFrom elapsedOf
+words = record { not-yet = refl; taken-at = refl; row-at = refl; numbers = refl }
 
 opened : Open ≡ None → true ≡ false
 opened e = let z : _≡_ {A = ℕ} 0 1 = cc in absurd (omega arith)
