@@ -8,6 +8,7 @@ use mathlib.Core.Bool.{Bool, true, false}
 use mathlib.Core.List.{List, [], _∷_, map}
 use lib.ListN.{drop}
 use Rattle.scl.specs.Time.{elapsedOf}
+use Rattle.scl.specs.Readings.{lastReading}
 use Rattle.scl.specs.Moved.{movedHappening, movedPast, OnClock, none, more}
 use Rattle.scl.specs.declared.Happening.{Happening}
 use Rattle.scl.specs.declared.Happening.the-variants as happening
@@ -219,7 +220,7 @@ pub record Words : Type 0 where
   numbers : map rowNumberOf (Stay ∷ T4 ∷ T7 ∷ T8 ∷ T11 ∷ T12 ∷ T13 ∷ T14 ∷ []) ≡ 0 ∷ 4 ∷ 7 ∷ 8 ∷ 11 ∷ 12 ∷ 13 ∷ 14 ∷ []
 
 pub words : Words
-unfolding hasPassed passesBy lastTakenAt lastRow judgedIn masterAfter stepOf watched operated quiet received arrived judged acted t4 t8 taken isOld isTaken checked from8 arrivalRow watchdogRow signalled sampleFrom elapsedOf
+unfolding hasPassed passesBy lastReading judgedIn masterAfter stepOf watched operated quiet received arrived judged acted t4 t8 taken isOld isTaken checked from8 arrivalRow watchdogRow signalled sampleFrom elapsedOf
 words = record { not-yet = refl; taken-at = refl; row-at = refl; numbers = refl }
 
 opened : Open ≡ None → true ≡ false

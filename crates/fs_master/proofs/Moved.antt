@@ -4,6 +4,7 @@ use Rattle.scl.specs.Happenings.{isFailure, readingOf}
 use Rattle.scl.specs.declared.Check.{Check}
 use Rattle.scl.proofs.Cases.{cond-case, cond-both}
 use Rattle.scl.proofs.Time.{shifted}
+use Rattle.scl.proofs.Watchdog.{last-fits}
 use mathlib.Core.Path.{_≡_, refl, ap}
 use mathlib.Core.Bool.{Bool, false, _||_}
 use mathlib.Core.List.{List}
@@ -18,7 +19,7 @@ use Rattle.fs_master.specs.declared.Row.the-variants.{Stay, T4, T7, T8, 
 use Rattle.fs_master.specs.Calls.{judged, quiet, arrived, received, watched, operated, stepOf}
 use Rattle.fs_master.specs.Table38.{watchdogRow, isOld, isTaken, hasFaults, checked, from8, arrivalRow, taken, sampleFrom, t4, t7, t8, t11, t12, t13, t14, acted, signalled, firstMaster}
 use Rattle.scl.specs.Moved.{moved, movedHappening, movedPast, OnClock, none, more}
-use Rattle.fs_master.specs.History.{masterAfter, acts, lastRow, movedMaster, movedOutcome}
+use Rattle.fs_master.specs.History.{masterAfter, arrives, watches, movedMaster, movedOutcome}
 use Rattle.fs_master.proofs.Samples.{judged-start, step-start, stepOf-sent}
 use Rattle.fs_master.proofs.Watchdog.{timer-reads}
 
@@ -123,17 +124,10 @@ moved-first k at = refl
 -- ---- every history: readings are of 32 bits, so what is stored of them is
 
 module _ (k at w : ℕ) (fits : at < 2 ^ 32) where
-  row-fits : {past : List Happening} → OnClock past → lastRow at w past < 2 ^ 32
-  unfolding lastRow
-  row-fits none = fits
-  row-fits (more {h} {past} r rest) =
-      let o = stepOf (masterAfter at w past) w h in
-      cond-case (λ (n : ℕ). n < 2 ^ 32) (acts (o .arrival) || acts (o .watchdog)) (λ _. r) (λ _. row-fits rest)
-
   called : {past : List Happening} → OnClock past → masterAfter (moved k at) w (movedPast k past) ≡ movedMaster k (masterAfter at w past)
       → (h : Happening) → readingOf h < 2 ^ 32
       → stepOf (masterAfter (moved k at) w (movedPast k past)) w (movedHappening k h) ≡ movedOutcome k (stepOf (masterAfter at w past) w h)
-  called {past} rest e h r = rw e (moved-step k (masterAfter at w past) w h (rw (timer-reads at w past) (row-fits rest)) r)
+  called {past} rest e h r = rw e (moved-step k (masterAfter at w past) w h (rw (timer-reads at w past) (last-fits (masterAfter at w) (λ m h. arrives w m h || watches w m h) at fits rest)) r)
 
   -- All readings since the block moved, and the block's: the FS-Master is the same but for its readings,
   pub moved-after : {past : List Happening} → OnClock past → masterAfter (moved k at) w (movedPast k past) ≡ movedMaster k (masterAfter at w past)

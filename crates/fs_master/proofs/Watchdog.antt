@@ -5,14 +5,14 @@ use mathlib.Core.Path.{_≡_, refl, sym, ap, _∙_}
 use mathlib.Core.Bool.{Bool, true, false, cond, not, _||_}
 use mathlib.Core.List.{List, [], _∷_}
 use mathlib.Core.Logic.{_⊎_, inl, inr}
-use lib.Dec.{eqb, ltb}
-use borrow.Author.Tests.{eqb-true, ltb-true, ltb-false, lt-ltb, not-true}
+use lib.Dec.{eqb}
+use borrow.Author.Tests.{eqb-true, lt-ltb, not-true}
 use Rattle.scl.specs.Time.{elapsedOf, expiredOf}
 use Rattle.scl.specs.Happenings.{readingOf, isFailure}
 use Rattle.scl.specs.declared.Happening.{Happening}
 use Rattle.scl.specs.declared.Happening.the-variants as happening
 use Rattle.scl.specs.declared.Response.{Response}
-use Rattle.scl.proofs.Time.{forward}
+use Rattle.scl.proofs.Watchdog as law
 use Rattle.scl.proofs.Cases.{cond-case, cond-or, no, and-left, and-right}
 use Rattle.fs_master.specs.declared.Master.{Master}
 use Rattle.fs_master.specs.declared.Outcome.{Outcome}
@@ -20,7 +20,7 @@ use Rattle.fs_master.specs.declared.Row.{Row}
 use Rattle.fs_master.specs.declared.Row.the-variants.{Stay, T8, T14}
 use Rattle.fs_master.specs.Table38.{timeoutRow, watchdogRow, isOld, isTaken, hasFaults, checked, arrivalRow, taken, t4, t7, t8, t11, t12, t13, t14, acted, signalled}
 use Rattle.fs_master.specs.Calls.{judged, quiet, arrived, received, watched, operated, stepOf}
-use Rattle.fs_master.specs.History.{masterAfter, Held, acts, lastRow, lastTakenAt, timesOut}
+use Rattle.fs_master.specs.History.{masterAfter, Held, acts, arrives, watches, lastRow, lastTakenAt, timesOut}
 use Rattle.fs_master.proofs.Rows.{timeout-case, row-case}
 use Rattle.fs_master.proofs.Counts.{always-held}
 use Rattle.fs_master.proofs.Samples.{step-watchdog}
@@ -98,19 +98,11 @@ late-by m at h not2 = go (eqb (m .state) 5) (eqb (m .state) 7) refl refl (h .res
     go false true e5 e7 r = record { in7 = refl; no-request = refl; no-edge = refl; silent = refl }
     go false false e5 e7 r = no (sym (simp (not2, e5, e7) at r))
 
-module _ (at w : ℕ) where
-  -- MTimer runs exactly outside of state 2, and reads the last call in which a row acted
-  pub timer-runs : (past : List Happening) → masterAfter at w past .runs ≡ not (eqb (masterAfter at w past .state) 2)
-  unfolding masterAfter
-  timer-runs [] = refl
-  timer-runs (h ∷ past) = step-timed (masterAfter at w past) w h .goes (timer-runs past)
-
-  pub timer-reads : (past : List Happening) → masterAfter at w past .MTimer ≡ lastRow at w past
-  unfolding masterAfter lastRow
-  timer-reads [] = refl
-  timer-reads (h ∷ past) =
-      let o = stepOf (masterAfter at w past) w h in
-      step-timed (masterAfter at w past) w h .reads ∙ ap (λ (t : ℕ). cond (acts (o .arrival) || acts (o .watchdog)) (readingOf h) t) (timer-reads past)
+-- MTimer runs exactly outside of state 2.
+pub timer-runs : (at w : ℕ) (past : List Happening) → masterAfter at w past .runs ≡ not (eqb (masterAfter at w past .state) 2)
+unfolding masterAfter
+timer-runs at w [] = refl
+timer-runs at w (h ∷ past) = step-timed (masterAfter at w past) w h .goes (timer-runs at w past)
 
 -- the arrival's rows do not release from there
 ended-row : (m : Master) (f : Response) (at : ℕ) (faults : Bool) → Ended m → acted (taken m f) (arrivalRow m faults) at (f .SDset) .released ≡ false
@@ -167,14 +159,14 @@ still-judged m w at =
 arrival-acts : (m : Master) (faults : Bool) → acts (arrivalRow m faults) ≡ true
 arrival-acts m faults = row-case (λ (r : Row). acts r ≡ true) m faults (λ _ _. refl) (λ _ _. refl) (λ _ _ _. refl) (λ _ _. refl) (λ _ _ _. refl)
 
-abbrev Still : Master → ℕ → ℕ → Outcome → Type 0
-Still m w at o = (acts (o .arrival) ≡ true) ⊎ ((acts (o .arrival) ≡ false) × ((acts (watchdogRow m w at) ≡ false) × (m .released ≡ true)))
+abbrev Still : Master → ℕ → Outcome → Type 0
+Still m w o = (acts (o .arrival) ≡ true) ⊎ ((acts (o .arrival) ≡ false) × ((acts (o .watchdog) ≡ false) × (m .released ≡ true)))
 
-still : (m : Master) (w : ℕ) (h : Happening) → stepOf m w h .master .released ≡ true → Still m w (readingOf h) (stepOf m w h)
+still : (m : Master) (w : ℕ) (h : Happening) → stepOf m w h .master .released ≡ true → Still m w (stepOf m w h)
 unfolding stepOf watched operated quiet signalled received arrived
 still m w (happening.Response at f) =
     let j = judged m w at in
-    cond-case (λ (o : Outcome). o .master .released ≡ true → Still m w at o) (isTaken j f) {x = arrived j (watchdogRow m w at) at f (checked j f)} {y = quiet j (watchdogRow m w at) (isOld j f)}
+    cond-case (λ (o : Outcome). o .master .released ≡ true → Still m w o) (isTaken j f) {x = arrived j (watchdogRow m w at) at f (checked j f)} {y = quiet j (watchdogRow m w at) (isOld j f)}
     (λ _ _. inl (arrival-acts j (hasFaults (isFailure (checked j f)) f)))
     (λ _ e. inr (refl, still-judged m w at e))
 still m w (happening.Request at q) = λ e. inr (refl, still-judged m w at e)
@@ -182,55 +174,22 @@ still m w (happening.Clock at) = λ e. inr (refl, still-judged m w at e)
 still m w (happening.Operator at «setSD_C» «ChFAck_C») = λ e. inr (refl, still-judged m w at e)
 
 module _ (at w : ℕ) where
-  watchdog-is : (past : List Happening) (h : Happening) → acts (watchdogRow (masterAfter at w past) w (readingOf h)) ≡ false → acts (stepOf (masterAfter at w past) w h .watchdog) ≡ false
-  watchdog-is past h e = ap acts (step-watchdog (masterAfter at w past) w h) ∙ e
-
-  released-runs : (past : List Happening) → masterAfter at w past .released ≡ true → masterAfter at w past .runs ≡ true
+  timed : law.Watched (masterAfter at w) (λ m. m .runs) (λ m. m .released) (λ m. m .MTimer) (arrives w) (watches w) at w
   unfolding masterAfter
-  released-runs [] e = no (sym e)
-  released-runs (h ∷ past) e = go (released-runs past) (still m w h e)
-    where
-      m : Master
-      m = masterAfter at w past
+  timed = record {
+    first-reads = refl;
+    first-silent = refl;
+    reads = λ past h. step-timed (masterAfter at w past) w h .reads;
+    runs-is = λ past h. step-timed (masterAfter at w past) w h .runs-is;
+    still = λ past h. still (masterAfter at w past) w h;
+    late = late at w;
+  }
 
-      go : (m .released ≡ true → m .runs ≡ true) → Still m w (readingOf h) (stepOf m w h) → stepOf m w h .master .runs ≡ true
-      go before (inl a) = step-timed m w h .runs-is ∙ simp a
-      go before (inr n) = step-timed m w h .runs-is ∙ simp (n .0, watchdog-is past h (n .1 .0)) (before (n .1 .1))
-
-  released-last : (past : List Happening) → masterAfter at w past .released ≡ true → lastRow at w past ≡ lastTakenAt at w past
-  unfolding masterAfter lastRow lastTakenAt
-  released-last [] e = refl
-  released-last (h ∷ past) e = go (released-last past) (still m w h e)
-    where
-      m : Master
-      m = masterAfter at w past
-
-      go : (m .released ≡ true → lastRow at w past ≡ lastTakenAt at w past) → Still m w (readingOf h) (stepOf m w h) → lastRow at w (h ∷ past) ≡ lastTakenAt at w (h ∷ past)
-      go before (inl a) = simp a
-      go before (inr n) = simp (n .0, watchdog-is past h (n .1 .0)) (before (n .1 .1))
-
-  not-late : (past : List Happening) (h : Happening) → masterAfter at w past .runs ≡ true → masterAfter at w (h ∷ past) .released ≡ true
-      → elapsedOf (readingOf h) (masterAfter at w past .MTimer) ≤ w
-  not-late past h runs e = go (ltb w elapsed) refl
-    where
-      elapsed : ℕ
-      elapsed = elapsedOf (readingOf h) (masterAfter at w past .MTimer)
-
-      go : (b : Bool) → ltb w elapsed ≡ b → elapsed ≤ w
-      go true over = no (sym e ∙ late at w past h runs (ltb-true w elapsed over))
-      go false over = ltb-false w elapsed over
+  -- MTimer reads the last call in which a row acted.
+  pub timer-reads : (past : List Happening) → masterAfter at w past .MTimer ≡ lastRow at w past
+  timer-reads past = law.timer-reads (masterAfter at w) (λ m. m .runs) (λ m. m .released) (λ m. m .MTimer) (arrives w) (watches w) at w timed past
 
   -- After no call is a value released whose last SPDU lies more than W back.
   pub released-in-time : (past : List Happening) (h : Happening) → readingOf h < 2 ^ 32 → masterAfter at w (h ∷ past) .released ≡ true
       → elapsedOf (readingOf h) (lastTakenAt at w (h ∷ past)) ≤ w
-  unfolding masterAfter lastTakenAt
-  released-in-time past h small e = go (still m w h e)
-    where
-      m : Master
-      m = masterAfter at w past
-
-      go : Still m w (readingOf h) (stepOf m w h) → elapsedOf (readingOf h) (lastTakenAt at w (h ∷ past)) ≤ w
-      go (inl a) = simp a (rw (forward (readingOf h) (readingOf h) small (omega arith)) (omega arith))
-      go (inr n) =
-          simp (n .0)
-          (rw (sym (released-last past (n .1 .1)), sym (timer-reads at w past)) (not-late past h (released-runs past (n .1 .1)) e))
+  released-in-time past h = law.released-in-time (masterAfter at w) (λ m. m .runs) (λ m. m .released) (λ m. m .MTimer) (arrives w) (watches w) at w timed past h

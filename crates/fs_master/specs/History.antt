@@ -7,6 +7,7 @@ use lib.Dec.{eqb}
 use Rattle.scl.specs.Time.{expiredOf}
 use Rattle.scl.specs.Counts.{countAfter, inverted}
 use Rattle.scl.specs.Happenings.{readingOf}
+use Rattle.scl.specs.Readings.{lastReading}
 use Rattle.scl.specs.Moved.{moved}
 use Rattle.scl.specs.declared.Happening.{Happening}
 use Rattle.scl.specs.declared.Happening.the-variants as happening
@@ -99,17 +100,20 @@ acts T12 = true
 acts T13 = true
 acts T14 = true
 
+-- in a call: the row of a response that is taken, and the watchdog's
+abbrev pub arrives : ℕ → Master → Happening → Bool
+arrives w m h = acts (stepOf m w h .arrival)
+
+abbrev pub watches : ℕ → Master → Happening → Bool
+watches w m h = acts (stepOf m w h .watchdog)
+
 -- the reading of the last call in which one did, or the block's
-unfoldable pub lastRow : ℕ → ℕ → List Happening → ℕ
-lastRow at w [] = at
-lastRow at w (h ∷ past) =
-    let o = stepOf (masterAfter at w past) w h in
-    cond (acts (o .arrival) || acts (o .watchdog)) (readingOf h) (lastRow at w past)
+abbrev pub lastRow : ℕ → ℕ → List Happening → ℕ
+lastRow at w past = lastReading (masterAfter at w) (λ m h. arrives w m h || watches w m h) at past
 
 -- the reading of the last call whose SPDU was taken, or the block's
-unfoldable pub lastTakenAt : ℕ → ℕ → List Happening → ℕ
-lastTakenAt at w [] = at
-lastTakenAt at w (h ∷ past) = cond (acts (stepOf (masterAfter at w past) w h .arrival)) (readingOf h) (lastTakenAt at w past)
+abbrev pub lastTakenAt : ℕ → ℕ → List Happening → ℕ
+lastTakenAt at w past = lastReading (masterAfter at w) (arrives w) at past
 
 -- ---- Faults and their acknowledgement
 
