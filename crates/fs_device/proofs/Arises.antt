@@ -140,7 +140,9 @@ pub record Met : Type 0 where
   pub damaged-safe : let o = stepOf (deviceBefore 10) 100 (happening.Request 164 (damaged 6)) in (o .mark ≡ Safe) × (o .device .released ≡ false)
   pub late : deviceBefore 19 .released ≡ false
   pub released-in-time : elapsedOf 144 (lastTakenAt block 100 (pastBefore 8)) ≤ 100
-  pub released-sound : (deviceBefore 7 .SDset ≡ false) × ((deviceBefore 7 .DCommErr ≡ false) × (deviceBefore 7 .DTimeout ≡ false))
+  pub released-sound :
+      let d = deviceBefore 7 in
+      (d .SDset ≡ false) × ((d .DCommErr ≡ false) × ((d .DTimeout ≡ false) × (d .«setSD_DC» ≡ false)))
   pub error-told : deviceBefore 11 .DCommErr ≡ true
   pub timeout-told : deviceBefore 19 .DTimeout ≡ true
 
@@ -163,6 +165,6 @@ met = record {
   late = watchdog.late block 100 (pastBefore 18) (happening.Operator 335 true false) refl (omega arith);
   released-in-time = watchdog.released-in-time block 100 (pastBefore 7) beside (omega arith) refl;
   released-sound = reports.released-sound block 100 (pastBefore 7) refl;
-  error-told = reports.error-told (deviceBefore 10) 100 164 (damaged 6) refl;
-  timeout-told = reports.timeout-told (deviceBefore 18) 100 (happening.Operator 335 true false) refl;
+  error-told = reports.error-told (deviceBefore 10) 100 (happening.Request 164 (damaged 6)) refl;
+  timeout-told = reports.timeout-told block 100 (pastBefore 18) (happening.Operator 335 true false) refl;
 }

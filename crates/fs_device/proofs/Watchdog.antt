@@ -20,8 +20,8 @@ use Rattle.fs_device.specs.declared.Row.{Row}
 use Rattle.fs_device.specs.declared.Row.the-variants.{Stay, T30, T31}
 use Rattle.fs_device.specs.Table40.{watchdogRow, isOld, isTaken, checked, arrivalRow, taken, t22, t25, t28, t29, t30t31, acted}
 use Rattle.fs_device.specs.Calls.{judged, quiet, arrived, received, watched, stepOf}
-use Rattle.fs_device.specs.History.{deviceAfter, waits, acts, lastRow, lastTakenAt}
-use Rattle.fs_device.proofs.Rows.{judged-case, row-case}
+use Rattle.fs_device.specs.History.{deviceAfter, timesOut, isTimeoutRow, waits, acts, lastRow, lastTakenAt}
+use Rattle.fs_device.proofs.Rows.{judged-case, timeout-case, row-case}
 use Rattle.fs_device.proofs.Faults.{waits-always}
 
 -- ---- what one call does to the timer: a row that acts restarts it, and it runs from then; without one it stays
@@ -44,8 +44,8 @@ unfolding arrived t22 t25 t28 t29
 arrived-timed d r at q =
     row-case d at q (λ x _ n. Timed d at (acts x) n) (isFailure (checked d q))
     (λ _. record { reads = refl; runs-is = refl; goes = λ _. refl })
-    (record { reads = refl; runs-is = refl; goes = λ _. refl })
     (λ _. record { reads = refl; runs-is = refl; goes = λ _. refl })
+    (λ _ _. record { reads = refl; runs-is = refl; goes = λ _. refl })
     (λ _. record { reads = refl; runs-is = refl; goes = λ _. refl })
 
 received-timed : (d : Device) (r : Row) (at : ℕ) (q : Request) → let o = received d r at q in Timed d at (acts (o .arrival)) (o .device)
@@ -102,6 +102,26 @@ module _ (at w : ℕ) where
       let o = stepOf (deviceAfter at w past) w h in
       step-timed (deviceAfter at w past) w h .reads ∙ ap (λ (t : ℕ). cond (acts (o .arrival) || acts (o .watchdog)) (readingOf h) t) (timer-reads past)
 
+  -- so the watchdog's rows are T30 and T31: a timeout
+  runs-in : (past : List Happening) → let d = deviceAfter at w past in d .runs ≡ true → (eqb (d .state) 24 || eqb (d .state) 26) ≡ true
+  runs-in past e =
+      let d = deviceAfter at w past in
+      go (eqb (d .state) 21) (eqb (d .state) 24) (eqb (d .state) 26) (sym (timer-runs past) ∙ e) (waits-always at w past)
+    where
+      go : (in21 in24 in26 : Bool) → not in21 ≡ true → (in21 || in24 || in26) ≡ true → (in24 || in26) ≡ true
+      go true in24 in26 a b = no (sym a)
+      go false in24 in26 a b = b
+
+  module _ (past : List Happening) (h : Happening) where
+    pub timeout-after : (P : Bool → Device → Type 0) → let d = deviceAfter at w past in P false d → P true (t30t31 d (readingOf h)) → P (timesOut d w (readingOf h)) (judged d w (readingOf h))
+    timeout-after P in-time over =
+        timeout-case (deviceAfter at w past) w (readingOf h) (λ out _ j. P out j) (runs-in past) in-time over over
+
+    pub timeout-rows : let d = deviceAfter at w past in timesOut d w (readingOf h) ≡ isTimeoutRow (stepOf d w h .watchdog)
+    timeout-rows =
+        let d = deviceAfter at w past in
+        rw (step-watchdog d w h) (timeout-case d w (readingOf h) (λ out r _. out ≡ isTimeoutRow r) (runs-in past) refl refl refl)
+
 -- ---- what a call does that finds it above W
 
 -- the watchdog's row then acts, and leaves state 26 with three cycles to go
@@ -123,7 +143,7 @@ ended-row : (d : Device) (q : Request) (at : ℕ) (CommErr : Bool) → Ended d �
 unfolding arrivalRow acted t25 t28 t29
 ended-row d q at CommErr e =
     let in26 : eqb (d .state) 26 ≡ true = ap (λ (n : ℕ). eqb n 26) (e .in26) in
-    row-case d at q (λ _ _ n. n .released ≡ false) CommErr (λ s. no (sym in26 ∙ s)) refl (λ _. refl) (λ _. refl)
+    row-case d at q (λ _ _ n. n .released ≡ false) CommErr (λ s. no (sym in26 ∙ s)) (λ _. refl) (λ _ _. refl) (λ _. refl)
 
 ended-received : (d : Device) (r : Row) (at : ℕ) (q : Request) → Ended d → received d r at q .device .released ≡ false
 unfolding received arrived quiet
@@ -155,7 +175,7 @@ unfolding t30t31
 still-judged d w at = judged-case d w at (λ r n. n .released ≡ true → (acts r ≡ false) × (d .released ≡ true)) (λ e. (refl, e)) (λ e. no (sym e)) (λ e. no (sym e))
 
 arrival-acts : (d : Device) (at : ℕ) (q : Request) (CommErr : Bool) → acts (arrivalRow d CommErr) ≡ true
-arrival-acts d at q CommErr = row-case d at q (λ r _ _. acts r ≡ true) CommErr (λ _. refl) refl (λ _. refl) (λ _. refl)
+arrival-acts d at q CommErr = row-case d at q (λ r _ _. acts r ≡ true) CommErr (λ _. refl) (λ _. refl) (λ _ _. refl) (λ _. refl)
 
 abbrev Still : Device → ℕ → ℕ → Outcome → Type 0
 Still d w at o = (acts (o .arrival) ≡ true) ⊎ ((acts (o .arrival) ≡ false) × ((acts (watchdogRow d w at) ≡ false) × (d .released ≡ true)))
