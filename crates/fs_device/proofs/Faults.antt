@@ -3,8 +3,9 @@ use Prim.Native.Nat.{ℕ, _≤_}
 use mathlib.Core.Path.{_≡_, refl, sym}
 use mathlib.Core.Bool.{Bool, true, false, cond, not, _&&_, _||_}
 use mathlib.Core.List.{List, [], _∷_}
+use mathlib.Core.Logic.{_⊎_, inl, inr}
 use lib.Dec.{eqb}
-use borrow.Author.Tests.{le-ltb, not-true}
+use borrow.Author.Tests.{eqb-true, le-ltb, not-true}
 use Rattle.scl.specs.Time.{elapsedOf, expiredOf}
 use Rattle.scl.specs.Happenings.{readingOf, checkOf, isFailure}
 use Rattle.scl.specs.declared.Happening.{Happening}
@@ -145,19 +146,22 @@ unfolding deviceAfter
 waits-always at w [] = refl
 waits-always at w (h ∷ past) = waiting (deviceAfter at w past) w h (waits-always at w past)
 
--- which SPDU is taken, in a wait
-alone : (zero in21 in24 in26 same : Bool) → in21 ≡ true → in24 ≡ false → in26 ≡ false
-    → (not zero && (in21 || in24 || in26) && not (not zero && (in24 || in26) && same)) ≡ not zero
-alone true in21 in24 in26 same a b c = refl
-alone false in21 in24 in26 same a b c = simp (a, b, c)
+-- which SPDU is taken: in 21, and in 24 and 26
+in21 : (zero same : Bool) → (not zero && true && not (not zero && false && same)) ≡ not zero
+in21 true same = refl
+in21 false same = refl
 
-later : (zero in21 in24 in26 same : Bool) → in21 ≡ false → (in21 || in24 || in26) ≡ true
-    → (not zero && (in21 || in24 || in26) && not (not zero && (in24 || in26) && same)) ≡ (not zero && not same)
-later true in21 in24 in26 same a b = refl
-later false true in24 in26 same a b = no a
-later false false true in26 same a b = refl
-later false false false true same a b = refl
-later false false false false same a b = no (sym b)
+later : (zero same : Bool) → (not zero && true && not (not zero && true && same)) ≡ (not zero && not same)
+later true same = refl
+later false same = refl
+
+rests : (d : Device) → waits d ≡ true → eqb (d .state) 21 ≡ false → (d .state ≡ 24) ⊎ (d .state ≡ 26)
+rests d wait e = go (eqb (d .state) 24) (eqb (d .state) 26) refl refl
+  where
+    go : (in24 in26 : Bool) → eqb (d .state) 24 ≡ in24 → eqb (d .state) 26 ≡ in26 → (d .state ≡ 24) ⊎ (d .state ≡ 26)
+    go true in26 a b = inl (eqb-true (d .state) 24 a)
+    go false true a b = inr (eqb-true (d .state) 26 b)
+    go false false a b = no (sym (simp (e, a, b) at wait))
 
 module _ (at w : ℕ) (past : List Happening) (reading : ℕ) (q : Request) where
   abbrev here : Device
@@ -166,15 +170,18 @@ module _ (at w : ℕ) (past : List Happening) (reading : ℕ) (q : Request) wher
   -- In 21 every SPDU is taken that is not all zero (R12, T21);
   pub taken-in-21 : here .state ≡ 21 → isTaken here q ≡ not (q .«all_zero»)
   unfolding isTaken
-  taken-in-21 e =
-      alone (q .«all_zero») (eqb (here .state) 21) (eqb (here .state) 24) (eqb (here .state) 26) (eqb (q .MCount) (here .MCount)) (rw e) (rw e) (rw e)
+  taken-in-21 s = rw s (in21 (q .«all_zero») (eqb (q .MCount) (here .MCount)))
 
   -- in 24 and 26, each that does not carry the MCount of the last taken either (R18, T24, T27).
   pub taken-later : eqb (here .state) 21 ≡ false → isTaken here q ≡ (not (q .«all_zero») && not (eqb (q .MCount) (lastTaken at w past)))
   unfolding isTaken
   taken-later e =
       rw (← judged-keeps (deviceAfter at w past) w reading (lastTaken at w past) (lastAsked at w past) (keeps at w past) .counted)
-      (later (q .«all_zero») (eqb (here .state) 21) (eqb (here .state) 24) (eqb (here .state) 26) (eqb (q .MCount) (here .MCount)) e (judged-waits (deviceAfter at w past) w reading (waits-always at w past)))
+      (go (rests here (judged-waits (deviceAfter at w past) w reading (waits-always at w past)) e))
+    where
+      go : (here .state ≡ 24) ⊎ (here .state ≡ 26) → isTaken here q ≡ (not (q .«all_zero») && not (eqb (q .MCount) (here .MCount)))
+      go (inl s) = rw s (later (q .«all_zero») (eqb (q .MCount) (here .MCount)))
+      go (inr s) = rw s (later (q .«all_zero») (eqb (q .MCount) (here .MCount)))
 
 taken-there : (zero old wait : Bool) → wait ≡ true → zero ≡ false → old ≡ false → (not zero && wait && not old) ≡ true
 taken-there zero old wait a b c = simp (a, b, c)
