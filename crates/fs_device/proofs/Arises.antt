@@ -21,7 +21,7 @@ use Rattle.fs_device.specs.declared.Row.{Row}
 use Rattle.fs_device.specs.declared.Row.the-variants.{Stay, T22, T25, T28, T29, T30, T31}
 use Rattle.fs_device.specs.Table40.{watchdogRow, isTaken, checked, arrivalRow, taken, t22, t25, t28, t29, t30t31, acted}
 use Rattle.fs_device.specs.Calls.{judged, quiet, arrived, received, watched, stepOf, stands}
-use Rattle.fs_device.specs.History.{FreshBy, deviceAfter, passedSince, hadError, hadTimeout, hadErrorOrTimeout, cyclesSinceError, cyclesSinceTimeout, lastTaken, movedDevice, movedOutcome, lastTakenAt}
+use Rattle.fs_device.specs.History.{FreshBy, deviceAfter, passedSince, hadError, hadTimeout, hadErrorOrTimeout, cyclesSinceError, cyclesSinceTimeout, hasTaken, lastTaken, movedDevice, movedOutcome, lastTakenAt}
 use Rattle.fs_device.proofs.Release as release
 use Rattle.fs_device.proofs.Faults as faults
 use Rattle.fs_device.proofs.Watchdog as watchdog
@@ -186,6 +186,7 @@ pub record Met : Type 0 where
   pub released-sound :
       let d = deviceBefore 7 in
       (d .SDset ≡ false) × ((d .DCommErr ≡ false) × ((d .DTimeout ≡ false) × (d .«setSD_DC» ≡ false)))
+  pub mirrors-last : deviceBefore 20 .«DCount_i» ≡ inverted (lastTaken block 100 (pastBefore 20))
   pub error-told : deviceBefore 11 .DCommErr ≡ true
   pub error-shown : deviceBefore 12 .DCommErr ≡ true
   pub error-over : (hadError block 100 (pastBefore 12) ≡ true) × (cyclesSinceError block 100 (pastBefore 12) ≤ 1)
@@ -194,7 +195,7 @@ pub record Met : Type 0 where
   pub timeout-over : (hadTimeout block 100 (pastBefore 23) ≡ true) × (cyclesSinceTimeout block 100 (pastBefore 23) ≤ 1)
 
 pub met : Met
-unfolding worked upTo deviceAfter hadErrorOrTimeout cyclesSinceError cyclesSinceTimeout stands stepOf watched received arrived quiet judged acted watchdogRow isTaken checked arrivalRow taken t22 t25 t28 t29 t30t31 elapsedOf
+unfolding worked upTo deviceAfter hasTaken hadErrorOrTimeout cyclesSinceError cyclesSinceTimeout stands stepOf watched received arrived quiet judged acted watchdogRow isTaken checked arrivalRow taken t22 t25 t28 t29 t30t31 elapsedOf
 met = record {
   fresh-only = release.fresh-only (deviceBefore 6) 100 releasing refl;
   fresh-if =
@@ -220,6 +221,7 @@ met = record {
   late = watchdog.late block 100 (pastBefore 19) (happening.Operator 335 true false) refl (omega arith);
   released-in-time = watchdog.released-in-time block 100 (pastBefore 7) beside (omega arith) refl;
   released-sound = reports.released-sound block 100 (pastBefore 7) refl;
+  mirrors-last = reports.mirrors-last block 100 (pastBefore 20) refl;
   error-told = reports.error-told (deviceBefore 10) 100 (happening.Request 164 (damaged 6)) refl;
   error-shown = cycles.error-shown block 100 (pastBefore 12) refl refl;
   error-over = cycles.error-over block 100 (pastBefore 12) refl;

@@ -38,7 +38,7 @@ module _ {least : ℕ} {d : Device} {bit : Bool} {count : ℕ} {had : Bool} {n :
   cleared m not-first (first b c s k h e) = absurd (not-first s k)
   cleared m not-first (last b c s h e l) = over refl c (λ _. l)
 
-  -- T25, which is in 24 and leaves DTimeout as it is: 0
+  -- T25, which is never in 26 and leaves DTimeout as it is: 0
   stays-over : (m : Device) → (d .state ≡ 26 → ⊥) → Shown least d bit count had n → Shown least m bit count had (n + 1)
   stays-over m not26 (over b c o) = over b c (λ e. omega (arith, o e))
   stays-over m not26 (first b c s k h e) = absurd (not26 s)
@@ -51,9 +51,9 @@ module _ {least : ℕ} {d : Device} {bit : Bool} {count : ℕ} {had : Bool} {n :
   stays m in26 three (last b c s h e l) = last b c in26 h e l
 
   at-least : Shown least d bit count had n → had ≡ true → n < least → bit ≡ true
-  at-least (over b c o) had few = absurd (omega (arith, o had))
-  at-least (first b c s k h e) had few = b
-  at-least (last b c s h e l) had few = b
+  at-least (over b c o) there few = absurd (omega (arith, o there))
+  at-least (first b c s k h e) there few = b
+  at-least (last b c s h e l) there few = b
 
   at-most : Shown least d bit count had n → bit ≡ true → (had ≡ true) × (n ≤ 1)
   at-most (over b c o) shown = no (sym shown ∙ b)

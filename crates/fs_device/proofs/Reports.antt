@@ -1,18 +1,22 @@
 -- What the FS-Device reports in the SPDUs that it builds: errors, timeouts and safe values. Assumes nothing.
 use Prim.Native.Nat.{ℕ, _≤_}
 use native.Mathlib.Omega.{arith}
-use mathlib.Core.Path.{_≡_, refl, sym}
+use mathlib.Core.Path.{_≡_, refl, sym, ap, _∙_}
 use mathlib.Core.Bool.{Bool, true, false, cond, not, _&&_, _||_}
 use mathlib.Core.List.{List, [], _∷_}
 use lib.Dec.{eqb}
+use Rattle.scl.specs.Time.{expiredOf}
+use Rattle.scl.specs.Counts.{inverted}
 use Rattle.scl.specs.Happenings.{readingOf}
 use Rattle.scl.specs.declared.Happening.{Happening}
-use Rattle.scl.proofs.Cases.{no}
+use Rattle.scl.proofs.Cases.{and-left, no}
 use Rattle.fs_device.specs.declared.Device.{Device}
 use Rattle.fs_device.specs.Table40.{taken, t22, t25, t28, t29, t30t31}
 use Rattle.fs_device.specs.Calls.{judged, stepOf}
-use Rattle.fs_device.specs.History.{deviceAfter, timesOut, errsBy, passesBy, hadTimeout, cyclesSinceTimeout}
+use Rattle.fs_device.specs.History.{deviceAfter, timesOut, errsBy, passesBy, hadTimeout, cyclesSinceTimeout, hasTaken, lastTaken}
 use Rattle.fs_device.proofs.Rows.{judged-case, call-case}
+use Rattle.fs_device.proofs.Faults.{mirrored, last-taken}
+use Rattle.fs_device.proofs.Watchdog.{timeout-after}
 use Rattle.fs_device.proofs.Cycles.{timeout-shown}
 
 -- ---- released: then nothing is wrong in what it builds
@@ -51,6 +55,51 @@ pub released-sound : (at w : ℕ) (past : List Happening) → Sound (deviceAfter
 unfolding deviceAfter
 released-sound at w [] e = no (sym e)
 released-sound at w (h ∷ past) e = step-sound (deviceAfter at w past) w h (released-sound at w past) e
+
+-- ---- it responds once an SPDU was taken (R23: until then zeros are sent), with the mirror of the MCount last taken (R21)
+
+record Responds (d : Device) (has : Bool) : Type 0 where
+  pub prepared : d .responded ≡ has
+  pub timed : d .runs ≡ has
+
+judged-responds : (at w : ℕ) (past : List Happening) (h : Happening) (has : Bool) → let d = deviceAfter at w past in
+    Responds d has → Responds (judged d w (readingOf h)) has
+unfolding t30t31
+judged-responds at w past h has k =
+    let d = deviceAfter at w past in
+    timeout-after at w past h (λ out j. (out ≡ true → has ≡ true) → Responds j has)
+    (λ _. k)
+    (λ once. record { prepared = sym (once refl); timed = sym (once refl) })
+    (λ out. sym (k .timed) ∙ and-left (d .runs) (expiredOf (readingOf h) (d .DTimer) w) out)
+
+taken-one : (CommErr has : Bool) → true ≡ (CommErr || not CommErr || has)
+taken-one true has = refl
+taken-one false has = refl
+
+step-responds : (d : Device) (w : ℕ) (h : Happening) (has : Bool) → let j = judged d w (readingOf h) in
+    Responds j has → Responds (stepOf d w h .device) (errsBy j h || passesBy j h || has)
+unfolding t22 t25 t28 t29
+step-responds d w h has k =
+    call-case d w h (λ e p n. Responds n (e || p || has)) (record {
+      none = k;
+      by22 = λ _ _ _. record { prepared = refl; timed = refl };
+      by25 = λ _ _ _. record { prepared = refl; timed = refl };
+      by28 = λ _ _ _ _. record { prepared = refl; timed = refl };
+      by29 = λ _ _ CommErr _. record { prepared = taken-one CommErr has; timed = taken-one CommErr has };
+    })
+
+module _ (at w : ℕ) where
+  responds : (past : List Happening) → Responds (deviceAfter at w past) (hasTaken at w past)
+  unfolding deviceAfter hasTaken
+  responds [] = record { prepared = refl; timed = refl }
+  responds (h ∷ past) =
+      step-responds (deviceAfter at w past) w h (hasTaken at w past) (judged-responds at w past h (hasTaken at w past) (responds past))
+
+  pub responds-once : (past : List Happening) → deviceAfter at w past .responded ≡ hasTaken at w past
+  responds-once past = responds past .prepared
+
+  pub mirrors-last : (past : List Happening) → hasTaken at w past ≡ true → deviceAfter at w past .«DCount_i» ≡ inverted (lastTaken at w past)
+  mirrors-last past has = mirrored at w past (responds-once past ∙ has) ∙ ap inverted (last-taken at w past)
 
 -- ---- an error and a timeout are in the next SPDU that it builds
 

@@ -124,6 +124,13 @@ cyclesSinceTimeout at w (h ∷ past) =
 abbrev pub Mirrors : Device → Type 0
 Mirrors d = d .responded ≡ true → d .«DCount_i» ≡ inverted (d .MCount)
 
+-- whether an SPDU was taken since the block
+unfoldable pub hasTaken : ℕ → ℕ → List Happening → Bool
+hasTaken at w [] = false
+hasTaken at w (h ∷ past) =
+    let j = judged (deviceAfter at w past) w (readingOf h) in
+    errsBy j h || passesBy j h || hasTaken at w past
+
 -- MCount of the last SPDU taken, at a device whose watchdog has been judged: that of this happening's, else the one before
 unfoldable pub takenBy : Device → Happening → ℕ → ℕ
 takenBy d (happening.Request at q) before = cond (isTaken d q) (q .MCount) before
