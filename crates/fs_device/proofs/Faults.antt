@@ -1,17 +1,18 @@
 -- What the FS-Device makes of counts, of damaged SPDUs and of time. Assumes nothing.
 use Prim.Native.Nat.{ℕ, _≤_}
-use mathlib.Core.Path.{_≡_, refl}
+use mathlib.Core.Path.{_≡_, refl, sym}
 use mathlib.Core.Bool.{Bool, true, false, cond, not, _&&_, _||_}
 use mathlib.Core.List.{List, [], _∷_}
+use mathlib.Core.Logic.{_⊎_, inl, inr}
 use lib.Dec.{eqb}
-use borrow.Author.Tests.{le-ltb, not-true}
+use borrow.Author.Tests.{eqb-true, le-ltb, not-true}
 use Rattle.scl.specs.Time.{elapsedOf, expiredOf}
 use Rattle.scl.specs.Happenings.{readingOf, checkOf, isFailure}
 use Rattle.scl.specs.declared.Happening.{Happening}
 use Rattle.scl.specs.declared.Happening.the-variants as happening
 use Rattle.scl.specs.declared.Check.{Check}
 use Rattle.scl.specs.declared.Mark.the-variants.{Safe}
-use Rattle.scl.proofs.Cases.{cond-case, cond-both, no}
+use Rattle.scl.proofs.Cases.{cond-case, no}
 use Rattle.scl.specs.declared.Request.{Request}
 use Rattle.fs_device.specs.declared.Device.{Device}
 use Rattle.fs_device.specs.declared.Outcome.{Outcome}
@@ -19,8 +20,8 @@ use Rattle.fs_device.specs.declared.Row.{Row}
 use Rattle.fs_device.specs.declared.Row.the-variants.{Stay}
 use Rattle.fs_device.specs.Table40.{timeoutRow, watchdogRow, isOld, isTaken, countHolds, checked, arrivalRow, taken, t22, t25, t28, t29, t30t31, acted}
 use Rattle.fs_device.specs.Calls.{judged, quiet, arrived, received, watched, stepOf, stands}
-use Rattle.fs_device.proofs.Rows.{judged-case, row-case}
-use Rattle.fs_device.specs.History.{deviceAfter, Mirrors, takenBy, lastTaken, waits, sound}
+use Rattle.fs_device.proofs.Rows.{judged-case, row-case, call-case}
+use Rattle.fs_device.specs.History.{deviceAfter, Mirrors, takenBy, lastTaken, askedBy, lastAsked, waits, sound}
 
 -- Time
 
@@ -55,19 +56,16 @@ judged-mirrors : (d : Device) (w at : ℕ) → Mirrors d → Mirrors (judged d w
 unfolding t30t31
 judged-mirrors d w at h = judged-case d w at (λ _ e. Mirrors e) h (λ _. refl) (λ _. refl)
 
-received-mirrors : (d : Device) (r : Row) (at : ℕ) (q : Request) → Mirrors d → Mirrors (received d r at q .device)
-unfolding received arrived quiet t22 t25 t28 t29
-received-mirrors d r at q h =
-    cond-case (λ (o : Outcome). Mirrors (o .device)) (isTaken d q)
-    (λ _. row-case d at q (λ _ _ e. Mirrors e) (isFailure (checked d q)) (λ _ _. refl) (λ _. refl) (λ _ _. refl) (λ _ _. refl))
-    (λ _. h)
-
 step-mirrors : (d : Device) (w : ℕ) (h : Happening) → Mirrors d → Mirrors (stepOf d w h .device)
-unfolding stepOf watched quiet
-step-mirrors d w (happening.Request at q) m = received-mirrors (judged d w at) (watchdogRow d w at) at q (judged-mirrors d w at m)
-step-mirrors d w (happening.Response at f) m = judged-mirrors d w at m
-step-mirrors d w (happening.Clock at) m = judged-mirrors d w at m
-step-mirrors d w (happening.Operator at «setSD_C» «ChFAck_C») m = judged-mirrors d w at m
+unfolding t22 t25 t28 t29
+step-mirrors d w h m =
+    call-case d w h (λ _ _ n. Mirrors n) (record {
+      none = judged-mirrors d w (readingOf h) m;
+      by22 = λ _ _ _ _. refl;
+      by25 = λ _ _ _ _. refl;
+      by28 = λ _ _ _ _ _. refl;
+      by29 = λ _ _ _ _ _. refl;
+    })
 
 -- DCount_i mirrors the last MCount taken, once there is a response,
 pub mirrored : (at w : ℕ) (past : List Happening) → Mirrors (deviceAfter at w past)
@@ -75,29 +73,55 @@ unfolding deviceAfter
 mirrored at w [] = λ e. no (cc)
 mirrored at w (h ∷ past) = step-mirrors (deviceAfter at w past) w h (mirrored at w past)
 
-judged-count : (d : Device) (w at n : ℕ) → d .MCount ≡ n → judged d w at .MCount ≡ n
-unfolding t30t31
-judged-count d w at n e = judged-case d w at (λ _ j. j .MCount ≡ n) e e e
+-- of the last SPDU taken the device keeps MCount and ChFAckReq
+record Keeps (d : Device) (count : ℕ) (asked : Bool) : Type 0 where
+  pub counted : d .MCount ≡ count
+  pub asks : d .«ChFAckReq_DC» ≡ asked
 
-received-count : (d : Device) (r : Row) (at n : ℕ) (q : Request) → d .MCount ≡ n → received d r at q .device .MCount ≡ cond (isTaken d q) (q .MCount) n
+judged-keeps : (d : Device) (w at n : ℕ) (asked : Bool) → Keeps d n asked → Keeps (judged d w at) n asked
+unfolding t30t31
+judged-keeps d w at n asked k = judged-case d w at (λ _ j. Keeps j n asked) k late late
+  where
+    late : Keeps (t30t31 d at) n asked
+    late = record { counted = k .counted; asks = k .asks }
+
+received-keeps : (d : Device) (r : Row) (at n : ℕ) (q : Request) (asked : Bool) → Keeps d n asked
+    → Keeps (received d r at q .device) (cond (isTaken d q) (q .MCount) n) (cond (isTaken d q) (q .ChFAckReq) asked)
 unfolding received arrived quiet t22 t25 t28 t29 taken
-received-count d r at n q e =
-    cond-both (λ (o : Outcome) (m : ℕ). o .device .MCount ≡ m) (isTaken d q)
-    (row-case d at q (λ _ _ j. j .MCount ≡ q .MCount) (isFailure (checked d q)) (λ _. refl) refl (λ _. refl) (λ _. refl))
-    e
+received-keeps d r at n q asked k = go (isTaken d q)
+  where
+    go : (t : Bool) → Keeps (cond t (arrived d r at q (checked d q)) (quiet d r (isOld d q)) .device) (cond t (q .MCount) n) (cond t (q .ChFAckReq) asked)
+    go true =
+        row-case d at q (λ _ _ j. Keeps j (q .MCount) (q .ChFAckReq)) (isFailure (checked d q))
+        (λ _. record { counted = refl; asks = refl })
+        (λ _. record { counted = refl; asks = refl })
+        (λ _ _. record { counted = refl; asks = refl })
+        (λ _. record { counted = refl; asks = refl })
+    go false = k
+
+step-keeps : (d : Device) (w n : ℕ) (asked : Bool) (h : Happening) → Keeps d n asked → let j = judged d w (readingOf h) in
+    Keeps (stepOf d w h .device) (takenBy j h n) (askedBy j h asked)
+unfolding stepOf watched quiet takenBy askedBy
+step-keeps d w n asked (happening.Request at q) k = received-keeps (judged d w at) (watchdogRow d w at) at n q asked (judged-keeps d w at n asked k)
+step-keeps d w n asked (happening.Response at f) k = judged-keeps d w at n asked k
+step-keeps d w n asked (happening.Clock at) k = judged-keeps d w at n asked k
+step-keeps d w n asked (happening.Operator at «setSD_C» «ChFAck_C») k = judged-keeps d w at n asked k
 
 pub step-count : (d : Device) (w n : ℕ) (h : Happening) → d .MCount ≡ n → stepOf d w h .device .MCount ≡ takenBy (judged d w (readingOf h)) h n
-unfolding stepOf watched quiet takenBy
-step-count d w n (happening.Request at q) e = received-count (judged d w at) (watchdogRow d w at) at n q (judged-count d w at n e)
-step-count d w n (happening.Response at f) e = judged-count d w at n e
-step-count d w n (happening.Clock at) e = judged-count d w at n e
-step-count d w n (happening.Operator at «setSD_C» «ChFAck_C») e = judged-count d w at n e
+step-count d w n h e = step-keeps d w n (d .«ChFAckReq_DC») h (record { counted = e; asks = refl }) .counted
 
--- which is that of the last SPDU taken.
+keeps : (at w : ℕ) (past : List Happening) → Keeps (deviceAfter at w past) (lastTaken at w past) (lastAsked at w past)
+unfolding deviceAfter lastTaken lastAsked
+keeps at w [] = record { counted = refl; asks = refl }
+keeps at w (h ∷ past) = step-keeps (deviceAfter at w past) w (lastTaken at w past) (lastAsked at w past) h (keeps at w past)
+
+-- which is that of the last SPDU taken;
 pub last-taken : (at w : ℕ) (past : List Happening) → deviceAfter at w past .MCount ≡ lastTaken at w past
-unfolding deviceAfter lastTaken
-last-taken at w [] = refl
-last-taken at w (h ∷ past) = step-count (deviceAfter at w past) w (lastTaken at w past) h (last-taken at w past)
+last-taken at w past = keeps at w past .counted
+
+-- and ChFAckReq_DC is its ChFAckReq, also where it failed a check (R22a).
+pub asks-last : (at w : ℕ) (past : List Happening) → deviceAfter at w past .«ChFAckReq_DC» ≡ lastAsked at w past
+asks-last at w past = keeps at w past .asks
 
 -- Damage
 
@@ -105,25 +129,59 @@ judged-waits : (d : Device) (w at : ℕ) → waits d ≡ true → waits (judged 
 unfolding t30t31
 judged-waits d w at h = judged-case d w at (λ _ e. waits e ≡ true) h refl refl
 
-received-waits : (d : Device) (r : Row) (at : ℕ) (q : Request) → waits d ≡ true → waits (received d r at q .device) ≡ true
-unfolding received arrived quiet t22 t25 t28 t29
-received-waits d r at q h =
-    cond-case (λ (o : Outcome). waits (o .device) ≡ true) (isTaken d q)
-    (λ _. row-case d at q (λ _ _ e. waits e ≡ true) (isFailure (checked d q)) (λ _. refl) refl (λ _. refl) (λ _. refl))
-    (λ _. h)
-
 -- The FS-Device rests in 21, 24 or 26, from a block on.
 waiting : (d : Device) (w : ℕ) (h : Happening) → waits d ≡ true → waits (stepOf d w h .device) ≡ true
-unfolding stepOf watched quiet
-waiting d w (happening.Request at q) e = received-waits (judged d w at) (watchdogRow d w at) at q (judged-waits d w at e)
-waiting d w (happening.Response at f) e = judged-waits d w at e
-waiting d w (happening.Clock at) e = judged-waits d w at e
-waiting d w (happening.Operator at «setSD_C» «ChFAck_C») e = judged-waits d w at e
+unfolding t22 t25 t28 t29
+waiting d w h e =
+    call-case d w h (λ _ _ n. waits n ≡ true) (record {
+      none = judged-waits d w (readingOf h) e;
+      by22 = λ _ _ _. refl;
+      by25 = λ _ _ _. refl;
+      by28 = λ _ _ _ _. refl;
+      by29 = λ _ _ _ _. refl;
+    })
 
 pub waits-always : (at w : ℕ) (past : List Happening) → waits (deviceAfter at w past) ≡ true
 unfolding deviceAfter
 waits-always at w [] = refl
 waits-always at w (h ∷ past) = waiting (deviceAfter at w past) w h (waits-always at w past)
+
+-- which SPDU is taken: in 21, and in 24 and 26
+in21 : (zero same : Bool) → (not zero && true && not (not zero && false && same)) ≡ not zero
+in21 true same = refl
+in21 false same = refl
+
+later : (zero same : Bool) → (not zero && true && not (not zero && true && same)) ≡ (not zero && not same)
+later true same = refl
+later false same = refl
+
+rests : (d : Device) → waits d ≡ true → eqb (d .state) 21 ≡ false → (d .state ≡ 24) ⊎ (d .state ≡ 26)
+rests d wait e = go (eqb (d .state) 24) (eqb (d .state) 26) refl refl
+  where
+    go : (in24 in26 : Bool) → eqb (d .state) 24 ≡ in24 → eqb (d .state) 26 ≡ in26 → (d .state ≡ 24) ⊎ (d .state ≡ 26)
+    go true in26 a b = inl (eqb-true (d .state) 24 a)
+    go false true a b = inr (eqb-true (d .state) 26 b)
+    go false false a b = no (sym (simp (e, a, b) at wait))
+
+module _ (at w : ℕ) (past : List Happening) (reading : ℕ) (q : Request) where
+  abbrev here : Device
+  here = judged (deviceAfter at w past) w reading
+
+  -- In 21 every SPDU is taken that is not all zero (R12, T21);
+  pub taken-in-21 : here .state ≡ 21 → isTaken here q ≡ not (q .«all_zero»)
+  unfolding isTaken
+  taken-in-21 s = rw s (in21 (q .«all_zero») (eqb (q .MCount) (here .MCount)))
+
+  -- in 24 and 26, each that does not carry the MCount of the last taken either (R18, T24, T27).
+  pub taken-later : eqb (here .state) 21 ≡ false → isTaken here q ≡ (not (q .«all_zero») && not (eqb (q .MCount) (lastTaken at w past)))
+  unfolding isTaken
+  taken-later e =
+      rw (← judged-keeps (deviceAfter at w past) w reading (lastTaken at w past) (lastAsked at w past) (keeps at w past) .counted)
+      (go (rests here (judged-waits (deviceAfter at w past) w reading (waits-always at w past)) e))
+    where
+      go : (here .state ≡ 24) ⊎ (here .state ≡ 26) → isTaken here q ≡ (not (q .«all_zero») && not (eqb (q .MCount) (here .MCount)))
+      go (inl s) = rw s (later (q .«all_zero») (eqb (q .MCount) (here .MCount)))
+      go (inr s) = rw s (later (q .«all_zero») (eqb (q .MCount) (here .MCount)))
 
 taken-there : (zero old wait : Bool) → wait ≡ true → zero ≡ false → old ≡ false → (not zero && wait && not old) ≡ true
 taken-there zero old wait a b c = simp (a, b, c)

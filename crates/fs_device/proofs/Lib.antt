@@ -1,7 +1,8 @@
 pub mod Rows
-pub mod Release
 pub mod Faults
 pub mod Watchdog
+pub mod Release
+pub mod Cycles
 pub mod Reports
 pub mod Moved
 pub mod Arises

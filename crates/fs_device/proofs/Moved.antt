@@ -1,12 +1,13 @@
 -- The wrap of the clock changes nothing at the FS-Device. Assumes nothing.
 use Prim.Native.Nat.{ℕ, _<_, _^_}
-use mathlib.Core.Path.{_≡_, refl}
-use mathlib.Core.Bool.{Bool, false}
+use mathlib.Core.Path.{_≡_, refl, ap}
+use mathlib.Core.Bool.{Bool, false, _||_}
+use mathlib.Core.List.{List, [], _∷_}
 use Rattle.scl.specs.Happenings.{isFailure, readingOf}
 use Rattle.scl.specs.declared.Happening.{Happening}
 use Rattle.scl.specs.declared.Happening.the-variants as happening
 use Rattle.scl.specs.declared.Check.{Check}
-use Rattle.scl.proofs.Cases.{cond-both}
+use Rattle.scl.proofs.Cases.{cond-case, cond-both}
 use Rattle.scl.proofs.Time.{shifted}
 use Rattle.scl.specs.declared.Request.{Request}
 use Rattle.fs_device.specs.declared.Device.{Device}
@@ -15,8 +16,9 @@ use Rattle.fs_device.specs.declared.Row.{Row}
 use Rattle.fs_device.specs.declared.Row.the-variants.{Stay, T22, T25, T28, T29, T30, T31}
 use Rattle.fs_device.specs.Table40.{watchdogRow, isOld, isTaken, checked, arrivalRow, taken, t22, t25, t28, t29, t30t31, acted, firstDevice}
 use Rattle.fs_device.specs.Calls.{judged, quiet, arrived, received, watched, stepOf}
-use Rattle.scl.specs.Moved.{moved, movedHappening}
-use Rattle.fs_device.specs.History.{movedDevice, movedOutcome}
+use Rattle.scl.specs.Moved.{moved, movedHappening, movedPast, OnClock, none, more}
+use Rattle.fs_device.specs.History.{deviceAfter, acts, lastRow, movedDevice, movedOutcome}
+use Rattle.fs_device.proofs.Watchdog.{timer-reads}
 
 module _ (k : ℕ) where
   moved-act : (d : Device) (r : Row) (at : ℕ) (setSD CommErr : Bool) → acted (movedDevice k d) r (moved k at) setSD CommErr ≡ movedDevice k (acted d r at setSD CommErr)
@@ -93,6 +95,39 @@ module _ (k : ℕ) where
   moved-step d w (happening.Operator at «setSD_C» «ChFAck_C») fits reading-fits = moved-watched d w at fits reading-fits
 
 -- and so from the block on
-pub moved-first : (k at : ℕ) → firstDevice (moved k at) ≡ movedDevice k (firstDevice at)
+moved-first : (k at : ℕ) → firstDevice (moved k at) ≡ movedDevice k (firstDevice at)
 unfolding movedDevice
 moved-first k at = refl
+
+-- DTimer is a reading of the history
+last-fits : (at w : ℕ) (past : List Happening) → at < 2 ^ 32 → OnClock past → lastRow at w past < 2 ^ 32
+unfolding lastRow
+last-fits at w [] fits none = fits
+last-fits at w (h ∷ past) fits (more reading-fits rest) =
+    let o = stepOf (deviceAfter at w past) w h in
+    cond-case (λ (t : ℕ). t < 2 ^ 32) (acts (o .arrival) || acts (o .watchdog)) (λ _. reading-fits) (λ _. last-fits at w past fits rest)
+
+timer-fits : (at w : ℕ) (past : List Happening) → at < 2 ^ 32 → OnClock past → deviceAfter at w past .DTimer < 2 ^ 32
+timer-fits at w past fits on = rw (timer-reads at w past) (last-fits at w past fits on)
+
+module _ (k at w : ℕ) where
+  abbrev Moves : List Happening → Type 0
+  Moves past = deviceAfter (moved k at) w (movedPast k past) ≡ movedDevice k (deviceAfter at w past)
+
+  abbrev MovesThen : List Happening → Happening → Type 0
+  MovesThen past h =
+      stepOf (deviceAfter (moved k at) w (movedPast k past)) w (movedHappening k h) ≡ movedOutcome k (stepOf (deviceAfter at w past) w h)
+
+  moved-then : (past : List Happening) (h : Happening) → at < 2 ^ 32 → readingOf h < 2 ^ 32 → OnClock past → Moves past → MovesThen past h
+  moved-then past h fits reading-fits on e = rw e (moved-step k (deviceAfter at w past) w h (timer-fits at w past fits on) reading-fits)
+
+  -- The wrap of the clock changes nothing: of every history, all readings moved by the same amount, the device is as it was but for DTimer,
+  pub moved-after : (past : List Happening) → at < 2 ^ 32 → OnClock past → Moves past
+  unfolding deviceAfter movedOutcome
+  moved-after [] fits none = moved-first k at
+  moved-after (h ∷ past) fits (more reading-fits on) =
+      ap (λ (o : Outcome). o .device) (moved-then past h fits reading-fits on (moved-after past fits on))
+
+  -- and each call's outcome is as it was.
+  pub moved-call : (past : List Happening) (h : Happening) → at < 2 ^ 32 → readingOf h < 2 ^ 32 → OnClock past → MovesThen past h
+  moved-call past h fits reading-fits on = moved-then past h fits reading-fits on (moved-after past fits on)

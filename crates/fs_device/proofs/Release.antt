@@ -1,12 +1,12 @@
 -- When the FS-Device releases. Assumes nothing.
 use Prim.Native.Nat.{ℕ, _+_, _≤_, _<_}
 use native.Mathlib.Omega.{arith}
-use mathlib.Core.Path.{_≡_, refl}
+use mathlib.Core.Path.{_≡_, refl, sym}
 use mathlib.Core.Bool.{Bool, true, false, cond, not, _&&_, _||_}
 use mathlib.Core.List.{List, [], _∷_}
 use lib.Dec.{eqb}
 use borrow.Author.Tests.{eqb-true, not-true, not-false}
-use Rattle.scl.specs.Happenings.{checkOf, isFailure, markOf}
+use Rattle.scl.specs.Happenings.{readingOf, checkOf, isFailure, markOf}
 use Rattle.scl.specs.declared.Happening.{Happening}
 use Rattle.scl.specs.declared.Happening.the-variants as happening
 use Rattle.scl.specs.declared.Mark.{Mark}
@@ -16,11 +16,12 @@ use Rattle.scl.specs.declared.Request.{Request}
 use Rattle.fs_device.specs.declared.Device.{Device}
 use Rattle.fs_device.specs.declared.Outcome.{Outcome}
 use Rattle.fs_device.specs.declared.Row.{Row}
-use Rattle.fs_device.specs.declared.Row.the-variants.{T22, T29}
+use Rattle.fs_device.specs.declared.Row.the-variants.{T22}
 use Rattle.fs_device.specs.Table40.{watchdogRow, isOld, isTaken, countHolds, checked, arrivalRow, taken, t22, t25, t28, t29, t30t31, acted}
 use Rattle.fs_device.specs.Calls.{judged, quiet, arrived, received, watched, stepOf}
-use Rattle.fs_device.proofs.Rows.{judged-case, row-case}
-use Rattle.fs_device.specs.History.{Releases, FreshBy, deviceAfter, isErrorOrTimeout, passedSince, hadErrorOrTimeout}
+use Rattle.fs_device.proofs.Rows.{row-case, call-case}
+use Rattle.fs_device.proofs.Watchdog.{timeout-after}
+use Rattle.fs_device.specs.History.{Releases, FreshBy, deviceAfter, timesOut, errsBy, passesBy, passedSince, hadError, hadTimeout, hadErrorOrTimeout}
 
 goes-on : {A : Type 0} → GoesOn ≡ Fresh → A
 goes-on e = let z : _≡_ {A = ℕ} 0 1 = cc in absurd (omega arith)
@@ -59,8 +60,8 @@ unfolding taken t22 t25 t28 t29
 row-asks d q at CommErr =
     row-case d at q (λ r CommErr a. a .released ≡ true → Asked d q CommErr r) CommErr
     (λ s e. ((refl, (refl, t22-asks (d .SDcycles) (q .setSD) e)), s))
-    (λ e. no (cc))
     (λ _ e. no (cc))
+    (λ _ _ e. no (cc))
     (λ _ e. no (cc))
 
 answered-fresh : (d : Device) (r : Row) (at : ℕ) (q : Request) → isTaken d q ≡ true → arrived d r at q (checked d q) .mark ≡ Fresh → Releases d q × (arrived d r at q (checked d q) .arrival ≡ T22)
@@ -97,72 +98,94 @@ fresh-if d w at q c = rw (c .taken) (arrived-fresh (judged d w at) (watchdogRow 
 abbrev before : Bool → ℕ
 before erred = cond erred 4 3
 
+at-least : (erred : Bool) → 3 ≤ before erred
+at-least true = omega arith
+at-least false = omega arith
+
 -- n have passed: those left are SDcycles' and, in 26, T28's
 record Counts (d : Device) (n : ℕ) (erred : Bool) : Type 0 where
   pub cycles : before erred ≤ d .SDcycles + n + cond (eqb (d .state) 26) 1 0
+  pub fault : eqb (d .state) 26 ≡ true → erred ≡ true
   pub release : d .released ≡ true → before erred < n
+  pub set : d .SDset ≡ false → 3 < n
 
--- after the watchdog's row, and after the arrival's
-abbrev CountsJudged : Row → Device → ℕ → Bool → Type 0
-CountsJudged r d n erred = Counts d (cond (isErrorOrTimeout r false) 0 n) (isErrorOrTimeout r false || erred)
+-- after an SPDU, or none
+abbrev CountsAfter : Device → ℕ → Bool → Bool → Bool → Type 0
+CountsAfter d n erred error passed = Counts d (cond error 0 (cond passed (n + 1) n)) (error || erred)
 
-abbrev CountsArrived : Row → Bool → Bool → Device → ℕ → Bool → Type 0
-CountsArrived r CommErr passed d n erred = Counts d (cond (isErrorOrTimeout r CommErr) 0 (cond passed (n + 1) n)) (isErrorOrTimeout r CommErr || erred)
+module _ (d : Device) (n : ℕ) (erred : Bool) (c : Counts d n erred) (at : ℕ) (q : Request) where
+  t22-counts : eqb (d .state) 26 ≡ false → CountsAfter (t22 (taken d q) at (q .setSD)) n erred false true
+  unfolding taken t22
+  t22-counts s =
+      let left = simp s at (c .cycles) in
+      record {
+        cycles = omega (arith, left);
+        fault = λ e. no (sym e);
+        release = λ e. omega (arith, left, t22-asks (d .SDcycles) (q .setSD) e .0);
+        set = λ e. omega (arith, left, at-least erred, eqb-true (d .SDcycles) 0 (not-false (eqb (d .SDcycles) 0) e));
+      }
 
-abbrev CountsAfter : Outcome → ℕ → Bool → Type 0
-CountsAfter o n erred =
-    CountsArrived (o .arrival) (isFailure (o .check)) (o .passed) (o .device) (cond (isErrorOrTimeout (o .watchdog) false) 0 n) (isErrorOrTimeout (o .watchdog) false || erred)
+  t28-counts : eqb (d .state) 26 ≡ true → d .SDcycles ≡ 0 → CountsAfter (t28 (taken d q) at) n erred false true
+  unfolding taken t28
+  t28-counts s none =
+      let left = simp s at (c .cycles) in
+      record {
+        cycles = omega (arith, left);
+        fault = λ e. no (sym e);
+        release = λ e. no (sym e);
+        set = λ _. omega (arith, simp (c .fault s) at left);
+      }
 
-t29-counts : (d : Device) (q : Request) (at n : ℕ) (erred CommErr : Bool) → Counts d n erred → eqb (d .state) 26 ≡ true → CountsArrived T29 CommErr (not CommErr) (t29 (taken d q) at CommErr) n erred
-unfolding taken t29
-t29-counts d q at n erred true c s = record { cycles = omega arith; release = λ e. no (cc) }
-t29-counts d q at n erred false c s = record { cycles = omega (arith, simp s at (c .cycles)); release = λ e. no (cc) }
+  t29-counts : (CommErr : Bool) → eqb (d .state) 26 ≡ true → CountsAfter (t29 (taken d q) at CommErr) n erred CommErr (not CommErr)
+  unfolding taken t29
+  t29-counts true s = record { cycles = omega arith; fault = λ _. refl; release = λ e. no (sym e); set = λ e. no e }
+  t29-counts false s = record { cycles = omega (arith, simp s at (c .cycles)); fault = λ _. c .fault s; release = λ e. no (sym e); set = λ e. no e }
 
-row-counts : (d : Device) (q : Request) (at n : ℕ) (erred CommErr : Bool) → Counts d n erred → CountsArrived (arrivalRow d CommErr) CommErr (not CommErr) (acted (taken d q) (arrivalRow d CommErr) at (q .setSD) CommErr) n erred
-unfolding taken t22 t25 t28
-row-counts d q at n erred CommErr c =
-    row-case d at q (λ r CommErr a. CountsArrived r CommErr (not CommErr) a n erred) CommErr
-    (λ s. record { cycles = omega (arith, simp s at (c .cycles)); release = λ e. omega (arith, simp s at (c .cycles), t22-asks (d .SDcycles) (q .setSD) e .0) })
-    (record { cycles = omega arith; release = λ e. no (cc) })
-    (λ s. record { cycles = omega (arith, simp s at (c .cycles)); release = λ e. no (cc) })
-    (t29-counts d q at n erred CommErr c)
+step-counts : (d : Device) (w n : ℕ) (erred : Bool) (h : Happening) → let j = judged d w (readingOf h) in
+    Counts j n erred → CountsAfter (stepOf d w h .device) n erred (errsBy j h) (passesBy j h)
+unfolding t25
+step-counts d w n erred h c =
+    let j = judged d w (readingOf h) in
+    call-case d w h (λ e p m. CountsAfter m n erred e p) (record {
+      none = c;
+      by22 = t22-counts j n erred c;
+      by25 = λ _ _ _. record { cycles = omega arith; fault = λ _. refl; release = λ e. no (sym e); set = λ e. no e };
+      by28 = t28-counts j n erred c;
+      by29 = t29-counts j n erred c;
+    })
 
-received-counts : (d : Device) (r : Row) (at n : ℕ) (q : Request) (erred : Bool) → CountsJudged r d n erred → CountsAfter (received d r at q) n erred
-unfolding received arrived quiet
-received-counts d r at n q erred c =
-    cond-case (λ (o : Outcome). CountsAfter o n erred) (isTaken d q)
-    (λ _. row-counts d q at (cond (isErrorOrTimeout r false) 0 n) (isErrorOrTimeout r false || erred) (isFailure (checked d q)) c)
-    (λ _. c)
-
-judged-counts : (d : Device) (w at n : ℕ) (erred : Bool) → Counts d n erred → CountsJudged (watchdogRow d w at) (judged d w at) n erred
-unfolding t30t31
-judged-counts d w at n erred c = judged-case d w at (λ r j. CountsJudged r j n erred) c late late
-  where
-    late : Counts (t30t31 d at) 0 true
-    late = record { cycles = omega arith; release = λ e. no (cc) }
-
-step-counts : (d : Device) (w n : ℕ) (erred : Bool) (h : Happening) → Counts d n erred → CountsAfter (stepOf d w h) n erred
-unfolding stepOf watched quiet
-step-counts d w n erred (happening.Request at q) c = received-counts (judged d w at) (watchdogRow d w at) at n q erred (judged-counts d w at n erred c)
-step-counts d w n erred (happening.Response at f) c = judged-counts d w at n erred c
-step-counts d w n erred (happening.Clock at) c = judged-counts d w at n erred c
-step-counts d w n erred (happening.Operator at «setSD_C» «ChFAck_C») c = judged-counts d w at n erred c
+or-both : (e t a b : Bool) → (e || (t || (a || b))) ≡ ((e || a) || (t || b))
+or-both true t a b = refl
+or-both false true true b = refl
+or-both false true false b = refl
+or-both false false a b = refl
 
 module _ (at w : ℕ) where
+  judged-counts : (past : List Happening) (h : Happening) (n : ℕ) (erred : Bool) → let d = deviceAfter at w past in let out = timesOut d w (readingOf h) in
+      Counts d n erred → Counts (judged d w (readingOf h)) (cond out 0 n) (out || erred)
+  unfolding t30t31
+  judged-counts past h n erred c =
+      timeout-after at w past h (λ out j. Counts j (cond out 0 n) (out || erred)) c
+      (record { cycles = omega arith; fault = λ _. refl; release = λ e. no (sym e); set = λ e. no e })
+
   counts : (past : List Happening) → Counts (deviceAfter at w past) (passedSince at w past) (hadErrorOrTimeout at w past)
   unfolding deviceAfter passedSince hadErrorOrTimeout
-  counts [] = record { cycles = omega arith; release = λ e. no (cc) }
+  counts [] = record { cycles = omega arith; fault = λ e. e; release = λ e. no (sym e); set = λ e. no e }
   counts (h ∷ past) =
-      step-counts (deviceAfter at w past) w (passedSince at w past) (hadErrorOrTimeout at w past) h (counts past)
+      let d = deviceAfter at w past in
+      let out = timesOut d w (readingOf h) in
+      let erred = hadErrorOrTimeout at w past in
+      rw (← or-both (errsBy (judged d w (readingOf h)) h) out (hadError at w past) (hadTimeout at w past))
+      (step-counts d w (cond out 0 (passedSince at w past)) (out || erred) h (judged-counts past h (passedSince at w past) erred (counts past)))
 
   -- After a block, an error or a timeout no release before SDcycles has run from 3 to 0: three SPDUs count it down, and a fourth releases;
   pub cycles-first : (past : List Happening) → deviceAfter at w past .released ≡ true → 3 < passedSince at w past
-  cycles-first past e = at-least (hadErrorOrTimeout at w past) (counts past .release e)
-    where
-      at-least : (erred : Bool) {n : ℕ} → before erred < n → 3 < n
-      at-least true l = omega arith
-      at-least false l = l
+  cycles-first past e = omega (arith, at-least (hadErrorOrTimeout at w past), counts past .release e)
 
   -- after an error or a timeout, a fifth, as T28 takes one.
   pub after-error : (past : List Happening) → hadErrorOrTimeout at w past ≡ true → deviceAfter at w past .released ≡ true → 4 < passedSince at w past
   after-error past had e = rw had at (counts past .release e)
+
+  -- Nor is SDset 0 before (000 Table 40, SDcycles: "setting SDout and SDset for at least 3 cycles during start-up and after a fault").
+  pub set-first : (past : List Happening) → deviceAfter at w past .SDset ≡ false → 3 < passedSince at w past
+  set-first past e = counts past .set e

@@ -1,108 +1,127 @@
 -- What the FS-Device reports in the SPDUs that it builds: errors, timeouts and safe values. Assumes nothing.
-use Prim.Native.Nat.{ℕ}
+use Prim.Native.Nat.{ℕ, _≤_}
+use native.Mathlib.Omega.{arith}
 use mathlib.Core.Path.{_≡_, refl, sym, ap, _∙_}
-use mathlib.Core.Bool.{Bool, true, false, not}
+use mathlib.Core.Bool.{Bool, true, false, cond, not, _&&_, _||_}
 use mathlib.Core.List.{List, [], _∷_}
 use lib.Dec.{eqb}
-use borrow.Author.Tests.{not-true}
-use Rattle.scl.specs.Happenings.{readingOf, isFailure}
+use Rattle.scl.specs.Time.{expiredOf}
+use Rattle.scl.specs.Counts.{inverted}
+use Rattle.scl.specs.Happenings.{readingOf}
 use Rattle.scl.specs.declared.Happening.{Happening}
-use Rattle.scl.specs.declared.Happening.the-variants as happening
-use Rattle.scl.specs.declared.Request.{Request}
-use Rattle.scl.proofs.Cases.{cond-case, no, and-left}
+use Rattle.scl.proofs.Cases.{and-left, no}
 use Rattle.fs_device.specs.declared.Device.{Device}
-use Rattle.fs_device.specs.declared.Outcome.{Outcome}
-use Rattle.fs_device.specs.declared.Row.{Row}
-use Rattle.fs_device.specs.declared.Row.the-variants.{T29}
-use Rattle.fs_device.specs.Table40.{watchdogRow, isOld, isTaken, checked, arrivalRow, taken, t22, t25, t28, t29, t30t31, acted}
-use Rattle.fs_device.specs.Calls.{judged, quiet, arrived, received, watched, stepOf}
-use Rattle.fs_device.specs.History.{deviceAfter, isErrorOrTimeout}
-use Rattle.fs_device.proofs.Rows.{judged-case, row-case}
-use Rattle.fs_device.proofs.Watchdog.{step-watchdog}
+use Rattle.fs_device.specs.Table40.{taken, t22, t25, t28, t29, t30t31}
+use Rattle.fs_device.specs.Calls.{judged, stepOf}
+use Rattle.fs_device.specs.History.{deviceAfter, timesOut, errsBy, passesBy, hadTimeout, cyclesSinceTimeout, hasTaken, lastTaken}
+use Rattle.fs_device.proofs.Rows.{judged-case, call-case}
+use Rattle.fs_device.proofs.Faults.{mirrored, last-taken}
+use Rattle.fs_device.proofs.Watchdog.{timeout-after}
+use Rattle.fs_device.proofs.Cycles.{timeout-shown}
 
 -- ---- released: then nothing is wrong in what it builds
 
 abbrev Sound : Device → Type 0
-Sound d = d .released ≡ true → (d .SDset ≡ false) × ((d .DCommErr ≡ false) × (d .DTimeout ≡ false))
+Sound d = d .released ≡ true → (d .SDset ≡ false) × ((d .DCommErr ≡ false) × ((d .DTimeout ≡ false) × (d .«setSD_DC» ≡ false)))
 
 judged-sound : (d : Device) (w at : ℕ) → Sound d → Sound (judged d w at)
 unfolding t30t31
 judged-sound d w at h = judged-case d w at (λ _ n. Sound n) h (λ e. no (sym e)) (λ e. no (sym e))
 
-received-sound : (d : Device) (r : Row) (at : ℕ) (q : Request) → Sound d → Sound (received d r at q .device)
-unfolding received arrived quiet t22 t25 t28 t29
-received-sound d r at q h =
-    cond-case (λ (o : Outcome). Sound (o .device)) (isTaken d q) {x = arrived d r at q (checked d q)} {y = quiet d r (isOld d q)}
-    (λ _. row-case d at q (λ _ _ n. Sound n) (isFailure (checked d q))
-    (λ _ e. (not-true (not (eqb (taken d q .SDcycles) 0)) (and-left (not (not (eqb (taken d q .SDcycles) 0))) (not (q .setSD)) e), (refl, refl)))
-    (λ e. no (sym e))
-    (λ _ e. no (sym e))
-    (λ _ e. no (sym e)))
-    (λ _. h)
+-- T22: SDset, and setSD_DC, where it releases
+neither : (counting set : Bool) → (not counting && not set) ≡ true → (counting ≡ false) × ((counting || set) ≡ false)
+neither true set e = no (sym e)
+neither false true e = no (sym e)
+neither false false e = (refl, refl)
+
+t22-sound : (d : Device) (at : ℕ) (setSD : Bool) → Sound (t22 d at setSD)
+unfolding t22
+t22-sound d at setSD e = let both = neither (not (eqb (d .SDcycles) 0)) setSD e in (both .0, (refl, (refl, both .1)))
 
 step-sound : (d : Device) (w : ℕ) (h : Happening) → Sound d → Sound (stepOf d w h .device)
-unfolding stepOf watched quiet
-step-sound d w (happening.Request at q) s = received-sound (judged d w at) (watchdogRow d w at) at q (judged-sound d w at s)
-step-sound d w (happening.Response at f) s = judged-sound d w at s
-step-sound d w (happening.Clock at) s = judged-sound d w at s
-step-sound d w (happening.Operator at «setSD_C» «ChFAck_C») s = judged-sound d w at s
+unfolding t25 t28 t29
+step-sound d w h s =
+    let j = judged d w (readingOf h) in
+    call-case d w h (λ _ _ n. Sound n) (record {
+      none = judged-sound d w (readingOf h) s;
+      by22 = λ at q _. t22-sound (taken j q) at (q .setSD);
+      by25 = λ _ _ _ e. no (sym e);
+      by28 = λ _ _ _ _ e. no (sym e);
+      by29 = λ _ _ _ _ e. no (sym e);
+    })
 
--- While it releases, SDset, DCommErr and DTimeout are 0.
+-- While it releases, SDset, DCommErr, DTimeout and setSD_DC are 0.
 pub released-sound : (at w : ℕ) (past : List Happening) → Sound (deviceAfter at w past)
 unfolding deviceAfter
 released-sound at w [] e = no (sym e)
 released-sound at w (h ∷ past) e = step-sound (deviceAfter at w past) w h (released-sound at w past) e
 
+-- ---- it responds once an SPDU was taken (R23: until then zeros are sent), with the mirror of the MCount last taken (R21)
+
+record Responds (d : Device) (has : Bool) : Type 0 where
+  pub prepared : d .responded ≡ has
+  pub timed : d .runs ≡ has
+
+judged-responds : (at w : ℕ) (past : List Happening) (h : Happening) (has : Bool) → let d = deviceAfter at w past in
+    Responds d has → Responds (judged d w (readingOf h)) has
+unfolding t30t31
+judged-responds at w past h has k =
+    let d = deviceAfter at w past in
+    timeout-after at w past h (λ out j. (out ≡ true → has ≡ true) → Responds j has)
+    (λ _. k)
+    (λ once. record { prepared = sym (once refl); timed = sym (once refl) })
+    (λ out. sym (k .timed) ∙ and-left (d .runs) (expiredOf (readingOf h) (d .DTimer) w) out)
+
+taken-one : (CommErr has : Bool) → true ≡ (CommErr || not CommErr || has)
+taken-one true has = refl
+taken-one false has = refl
+
+step-responds : (d : Device) (w : ℕ) (h : Happening) (has : Bool) → let j = judged d w (readingOf h) in
+    Responds j has → Responds (stepOf d w h .device) (errsBy j h || passesBy j h || has)
+unfolding t22 t25 t28 t29
+step-responds d w h has k =
+    call-case d w h (λ e p n. Responds n (e || p || has)) (record {
+      none = k;
+      by22 = λ _ _ _. record { prepared = refl; timed = refl };
+      by25 = λ _ _ _. record { prepared = refl; timed = refl };
+      by28 = λ _ _ _ _. record { prepared = refl; timed = refl };
+      by29 = λ _ _ CommErr _. record { prepared = taken-one CommErr has; timed = taken-one CommErr has };
+    })
+
+module _ (at w : ℕ) where
+  responds : (past : List Happening) → Responds (deviceAfter at w past) (hasTaken at w past)
+  unfolding deviceAfter hasTaken
+  responds [] = record { prepared = refl; timed = refl }
+  responds (h ∷ past) =
+      step-responds (deviceAfter at w past) w h (hasTaken at w past) (judged-responds at w past h (hasTaken at w past) (responds past))
+
+  pub responds-once : (past : List Happening) → deviceAfter at w past .responded ≡ hasTaken at w past
+  responds-once past = responds past .prepared
+
+  pub mirrors-last : (past : List Happening) → hasTaken at w past ≡ true → deviceAfter at w past .«DCount_i» ≡ inverted (lastTaken at w past)
+  mirrors-last past has = mirrored at w past (responds-once past ∙ has) ∙ ap inverted (last-taken at w past)
+
 -- ---- an error and a timeout are in the next SPDU that it builds
 
-received-error : (d : Device) (r : Row) (at : ℕ) (q : Request) → let o = received d r at q in isErrorOrTimeout (o .arrival) (isFailure (o .check)) ≡ true → o .device .DCommErr ≡ true
-unfolding received arrived quiet t25 t29
-received-error d r at q =
-    cond-case (λ (o : Outcome). isErrorOrTimeout (o .arrival) (isFailure (o .check)) ≡ true → o .device .DCommErr ≡ true) (isTaken d q) {x = arrived d r at q (checked d q)} {y = quiet d r (isOld d q)}
-    (λ _. row-case d at q (λ x CommErr n. isErrorOrTimeout x CommErr ≡ true → n .DCommErr ≡ true) (isFailure (checked d q))
-    (λ _ e. no (sym e))
-    (λ _. refl)
-    (λ _ e. no (sym e))
-    (λ _ e. simp e))
-    (λ _ e. no (sym e))
+pub error-told : (d : Device) (w : ℕ) (h : Happening) → errsBy (judged d w (readingOf h)) h ≡ true → stepOf d w h .device .DCommErr ≡ true
+unfolding t25 t29
+error-told d w h =
+    call-case d w h (λ e _ n. e ≡ true → n .DCommErr ≡ true) (record {
+      none = λ e. no (sym e);
+      by22 = λ _ _ _ e. no (sym e);
+      by25 = λ _ _ _ _. refl;
+      by28 = λ _ _ _ _ e. no (sym e);
+      by29 = λ _ _ _ _ e. simp e;
+    })
 
-pub error-told : (d : Device) (w at : ℕ) (q : Request) → let o = stepOf d w (happening.Request at q) in
-    isErrorOrTimeout (o .arrival) (isFailure (o .check)) ≡ true → o .device .DCommErr ≡ true
-unfolding stepOf
-error-told d w at q = received-error (judged d w at) (watchdogRow d w at) at q
+pub timeout-told : (at w : ℕ) (past : List Happening) (h : Happening) → timesOut (deviceAfter at w past) w (readingOf h) ≡ true → deviceAfter at w (h ∷ past) .DTimeout ≡ true
+unfolding hadTimeout cyclesSinceTimeout
+timeout-told at w past h e =
+    timeout-shown at w (h ∷ past) (rw e) (rw e (at-most (errsBy j h || passesBy j h)))
+  where
+    j : Device
+    j = judged (deviceAfter at w past) w (readingOf h)
 
--- after T30 or T31: whatever SPDU comes in the same call leads to T29
-record Late (d : Device) : Type 0 where
-  pub in26 : d .state ≡ 26
-  pub cycles : d .SDcycles ≡ 3
-  pub counted : d .TimeoutCount ≡ 1
-  pub told : d .DTimeout ≡ true
-
-judged-late : (d : Device) (w at : ℕ) → isErrorOrTimeout (watchdogRow d w at) false ≡ true → Late (judged d w at)
-unfolding t30t31
-judged-late d w at =
-    judged-case d w at (λ r n. isErrorOrTimeout r false ≡ true → Late n) (λ e. no (sym e))
-    (λ _. record { in26 = refl; cycles = refl; counted = refl; told = refl })
-    (λ _. record { in26 = refl; cycles = refl; counted = refl; told = refl })
-
-late-row : (d : Device) (CommErr : Bool) → Late d → arrivalRow d CommErr ≡ T29
-unfolding arrivalRow
-late-row d true l = simp (l .in26)
-late-row d false l = simp (l .in26, l .cycles)
-
-received-late : (d : Device) (r : Row) (at : ℕ) (q : Request) → Late d → received d r at q .device .DTimeout ≡ true
-unfolding received arrived quiet acted taken t29
-received-late d r at q l =
-    cond-case (λ (o : Outcome). o .device .DTimeout ≡ true) (isTaken d q) {x = arrived d r at q (checked d q)} {y = quiet d r (isOld d q)}
-    (λ _. rw (late-row d (isFailure (checked d q)) l) (simp (l .counted)))
-    (λ _. l .told)
-
-late-told : (d : Device) (w : ℕ) (h : Happening) → Late (judged d w (readingOf h)) → stepOf d w h .device .DTimeout ≡ true
-unfolding stepOf watched quiet
-late-told d w (happening.Request at q) l = received-late (judged d w at) (watchdogRow d w at) at q l
-late-told d w (happening.Response at f) l = l .told
-late-told d w (happening.Clock at) l = l .told
-late-told d w (happening.Operator at «setSD_C» «ChFAck_C») l = l .told
-
-pub timeout-told : (d : Device) (w : ℕ) (h : Happening) → let o = stepOf d w h in isErrorOrTimeout (o .watchdog) false ≡ true → o .device .DTimeout ≡ true
-timeout-told d w h e = late-told d w h (judged-late d w (readingOf h) (sym (ap (λ (r : Row). isErrorOrTimeout r false) (step-watchdog d w h)) ∙ e))
+    at-most : (taken : Bool) → cond taken 1 0 ≤ 1
+    at-most true = omega arith
+    at-most false = omega arith

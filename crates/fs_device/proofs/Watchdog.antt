@@ -6,7 +6,7 @@ use mathlib.Core.Bool.{Bool, true, false, cond, not, _||_}
 use mathlib.Core.List.{List, [], _∷_}
 use mathlib.Core.Logic.{_⊎_, inl, inr}
 use lib.Dec.{eqb, ltb}
-use borrow.Author.Tests.{ltb-true, ltb-false, lt-ltb, not-true}
+use borrow.Author.Tests.{eqb-false, ltb-true, ltb-false, lt-ltb, not-true}
 use Rattle.scl.specs.Time.{elapsedOf}
 use Rattle.scl.specs.Happenings.{readingOf, isFailure}
 use Rattle.scl.specs.declared.Happening.{Happening}
@@ -18,10 +18,10 @@ use Rattle.fs_device.specs.declared.Device.{Device}
 use Rattle.fs_device.specs.declared.Outcome.{Outcome}
 use Rattle.fs_device.specs.declared.Row.{Row}
 use Rattle.fs_device.specs.declared.Row.the-variants.{Stay, T30, T31}
-use Rattle.fs_device.specs.Table40.{watchdogRow, isOld, isTaken, checked, arrivalRow, taken, t22, t25, t28, t29, t30t31, acted}
+use Rattle.fs_device.specs.Table40.{watchdogRow, isOld, isTaken, checked, arrivalRow, t22, t25, t28, t29, t30t31, acted}
 use Rattle.fs_device.specs.Calls.{judged, quiet, arrived, received, watched, stepOf}
-use Rattle.fs_device.specs.History.{deviceAfter, waits, acts, lastRow, lastTakenAt}
-use Rattle.fs_device.proofs.Rows.{judged-case, row-case}
+use Rattle.fs_device.specs.History.{deviceAfter, timesOut, isTimeoutRow, waits, acts, lastRow, lastTakenAt}
+use Rattle.fs_device.proofs.Rows.{judged-case, timeout-case, row-case, step-case, call-case}
 use Rattle.fs_device.proofs.Faults.{waits-always}
 
 -- ---- what one call does to the timer: a row that acts restarts it, and it runs from then; without one it stays
@@ -44,8 +44,8 @@ unfolding arrived t22 t25 t28 t29
 arrived-timed d r at q =
     row-case d at q (λ x _ n. Timed d at (acts x) n) (isFailure (checked d q))
     (λ _. record { reads = refl; runs-is = refl; goes = λ _. refl })
-    (record { reads = refl; runs-is = refl; goes = λ _. refl })
     (λ _. record { reads = refl; runs-is = refl; goes = λ _. refl })
+    (λ _ _. record { reads = refl; runs-is = refl; goes = λ _. refl })
     (λ _. record { reads = refl; runs-is = refl; goes = λ _. refl })
 
 received-timed : (d : Device) (r : Row) (at : ℕ) (q : Request) → let o = received d r at q in Timed d at (acts (o .arrival)) (o .device)
@@ -55,17 +55,9 @@ received-timed d r at q =
     (λ _. arrived-timed d r at q)
     (λ _. record { reads = refl; runs-is = refl; goes = λ e. e })
 
-received-watchdog : (d : Device) (r : Row) (at : ℕ) (q : Request) → received d r at q .watchdog ≡ r
-unfolding received arrived quiet
-received-watchdog d r at q =
-    cond-case (λ (o : Outcome). o .watchdog ≡ r) (isTaken d q) {x = arrived d r at q (checked d q)} {y = quiet d r (isOld d q)} (λ _. refl) (λ _. refl)
-
 pub step-watchdog : (d : Device) (w : ℕ) (h : Happening) → stepOf d w h .watchdog ≡ watchdogRow d w (readingOf h)
-unfolding stepOf watched quiet
-step-watchdog d w (happening.Request at q) = received-watchdog (judged d w at) (watchdogRow d w at) at q
-step-watchdog d w (happening.Response at f) = refl
-step-watchdog d w (happening.Clock at) = refl
-step-watchdog d w (happening.Operator at «setSD_C» «ChFAck_C») = refl
+unfolding quiet arrived
+step-watchdog d w h = step-case d w (λ _ _ o. o .watchdog ≡ watchdogRow d w (readingOf h)) h (λ _. refl) (λ _ _. refl)
 
 step-timed : (d : Device) (w : ℕ) (h : Happening) → let o = stepOf d w h in Timed d (readingOf h) (acts (o .arrival) || acts (o .watchdog)) (o .device)
 unfolding stepOf watched quiet
@@ -102,6 +94,26 @@ module _ (at w : ℕ) where
       let o = stepOf (deviceAfter at w past) w h in
       step-timed (deviceAfter at w past) w h .reads ∙ ap (λ (t : ℕ). cond (acts (o .arrival) || acts (o .watchdog)) (readingOf h) t) (timer-reads past)
 
+  -- so the watchdog's rows are T30 and T31: a timeout
+  runs-in : (past : List Happening) → let d = deviceAfter at w past in d .runs ≡ true → (eqb (d .state) 24 || eqb (d .state) 26) ≡ true
+  runs-in past e =
+      let d = deviceAfter at w past in
+      go (eqb (d .state) 21) (eqb (d .state) 24) (eqb (d .state) 26) (sym (timer-runs past) ∙ e) (waits-always at w past)
+    where
+      go : (in21 in24 in26 : Bool) → not in21 ≡ true → (in21 || in24 || in26) ≡ true → (in24 || in26) ≡ true
+      go true in24 in26 a b = no (sym a)
+      go false in24 in26 a b = b
+
+  module _ (past : List Happening) (h : Happening) where
+    pub timeout-after : (P : Bool → Device → Type 0) → let d = deviceAfter at w past in P false d → P true (t30t31 d (readingOf h)) → P (timesOut d w (readingOf h)) (judged d w (readingOf h))
+    timeout-after P in-time over =
+        timeout-case (deviceAfter at w past) w (readingOf h) (λ out _ j. P out j) (runs-in past) in-time over over
+
+    pub timeout-rows : let d = deviceAfter at w past in timesOut d w (readingOf h) ≡ isTimeoutRow (stepOf d w h .watchdog)
+    timeout-rows =
+        let d = deviceAfter at w past in
+        rw (step-watchdog d w h) (timeout-case d w (readingOf h) (λ out r _. out ≡ isTimeoutRow r) (runs-in past) refl refl refl)
+
 -- ---- what a call does that finds it above W
 
 -- the watchdog's row then acts, and leaves state 26 with three cycles to go
@@ -119,25 +131,16 @@ late-judged d w at rests not21 runs late = simp (runs, lt-ltb w (elapsedOf at (d
     go false true e24 e26 = record { in26 = refl; cycles = refl; silent = refl }
     go false false e24 e26 = no (sym (simp (not21, e24, e26) at rests))
 
-ended-row : (d : Device) (q : Request) (at : ℕ) (CommErr : Bool) → Ended d → acted (taken d q) (arrivalRow d CommErr) at (q .setSD) CommErr .released ≡ false
-unfolding arrivalRow acted t25 t28 t29
-ended-row d q at CommErr e =
-    let in26 : eqb (d .state) 26 ≡ true = ap (λ (n : ℕ). eqb n 26) (e .in26) in
-    row-case d at q (λ _ _ n. n .released ≡ false) CommErr (λ s. no (sym in26 ∙ s)) refl (λ _. refl) (λ _. refl)
-
-ended-received : (d : Device) (r : Row) (at : ℕ) (q : Request) → Ended d → received d r at q .device .released ≡ false
-unfolding received arrived quiet
-ended-received d r at q e =
-    cond-case (λ (o : Outcome). o .device .released ≡ false) (isTaken d q) {x = arrived d r at q (checked d q)} {y = quiet d r (isOld d q)}
-    (λ _. ended-row d q at (isFailure (checked d q)) e)
-    (λ _. e .silent)
-
 late-step : (d : Device) (w : ℕ) (h : Happening) → Ended (judged d w (readingOf h)) → stepOf d w h .device .released ≡ false
-unfolding stepOf watched quiet
-late-step d w (happening.Request at q) e = ended-received (judged d w at) (watchdogRow d w at) at q e
-late-step d w (happening.Response at f) e = e .silent
-late-step d w (happening.Clock at) e = e .silent
-late-step d w (happening.Operator at «setSD_C» «ChFAck_C») e = e .silent
+unfolding t25 t28 t29
+late-step d w h e =
+    call-case d w h (λ _ _ n. n .released ≡ false) (record {
+      none = e .silent;
+      by22 = λ _ _ s. absurd (eqb-false (judged d w (readingOf h) .state) 26 s (e .in26));
+      by25 = λ _ _ _. refl;
+      by28 = λ _ _ _ _. refl;
+      by29 = λ _ _ _ _. refl;
+    })
 
 -- A call that finds DTimer running with elapsed above W leaves nothing released, whatever it brings.
 pub late : (at w : ℕ) (past : List Happening) (h : Happening) → let d = deviceAfter at w past in
@@ -155,21 +158,18 @@ unfolding t30t31
 still-judged d w at = judged-case d w at (λ r n. n .released ≡ true → (acts r ≡ false) × (d .released ≡ true)) (λ e. (refl, e)) (λ e. no (sym e)) (λ e. no (sym e))
 
 arrival-acts : (d : Device) (at : ℕ) (q : Request) (CommErr : Bool) → acts (arrivalRow d CommErr) ≡ true
-arrival-acts d at q CommErr = row-case d at q (λ r _ _. acts r ≡ true) CommErr (λ _. refl) refl (λ _. refl) (λ _. refl)
+arrival-acts d at q CommErr = row-case d at q (λ r _ _. acts r ≡ true) CommErr (λ _. refl) (λ _. refl) (λ _ _. refl) (λ _. refl)
 
 abbrev Still : Device → ℕ → ℕ → Outcome → Type 0
 Still d w at o = (acts (o .arrival) ≡ true) ⊎ ((acts (o .arrival) ≡ false) × ((acts (watchdogRow d w at) ≡ false) × (d .released ≡ true)))
 
 still : (d : Device) (w : ℕ) (h : Happening) → stepOf d w h .device .released ≡ true → Still d w (readingOf h) (stepOf d w h)
-unfolding stepOf watched quiet received arrived
-still d w (happening.Request at q) =
-    let j = judged d w at in
-    cond-case (λ (o : Outcome). o .device .released ≡ true → Still d w at o) (isTaken j q) {x = arrived j (watchdogRow d w at) at q (checked j q)} {y = quiet j (watchdogRow d w at) (isOld j q)}
-    (λ _ _. inl (arrival-acts j at q (isFailure (checked j q))))
-    (λ _ e. inr (refl, still-judged d w at e))
-still d w (happening.Response at f) = λ e. inr (refl, still-judged d w at e)
-still d w (happening.Clock at) = λ e. inr (refl, still-judged d w at e)
-still d w (happening.Operator at «setSD_C» «ChFAck_C») = λ e. inr (refl, still-judged d w at e)
+unfolding quiet arrived
+still d w h =
+    let j = judged d w (readingOf h) in
+    step-case d w (λ _ _ o. o .device .released ≡ true → Still d w (readingOf h) o) h
+    (λ _ e. inr (refl, still-judged d w (readingOf h) e))
+    (λ at q _. inl (arrival-acts j at q (isFailure (checked j q))))
 
 module _ (at w : ℕ) where
   watchdog-is : (past : List Happening) (h : Happening) → acts (watchdogRow (deviceAfter at w past) w (readingOf h)) ≡ false → acts (stepOf (deviceAfter at w past) w h .watchdog) ≡ false

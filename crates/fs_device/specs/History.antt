@@ -1,11 +1,12 @@
 -- What the rows come to, over the definitions of this folder: the words in which the theorems of proofs/ are stated. Assumes nothing.
 use Prim.Native.Nat.{ℕ, _+_}
 use mathlib.Core.Path.{_≡_}
-use mathlib.Core.Bool.{Bool, true, false, cond, _&&_, _||_}
+use mathlib.Core.Bool.{Bool, true, false, cond, not, _&&_, _||_}
 use lib.Dec.{eqb}
 use mathlib.Core.List.{List, [], _∷_}
 use Rattle.scl.specs.Counts.{inverted}
-use Rattle.scl.specs.Happenings.{readingOf, isFailure}
+use Rattle.scl.specs.Time.{expiredOf}
+use Rattle.scl.specs.Happenings.{readingOf}
 use Rattle.scl.specs.Moved.{moved}
 use Rattle.scl.specs.declared.Happening.{Happening}
 use Rattle.scl.specs.declared.Happening.the-variants as happening
@@ -39,34 +40,96 @@ unfoldable pub deviceAfter : ℕ → ℕ → List Happening → Device
 deviceAfter at w [] = firstDevice at
 deviceAfter at w (h ∷ past) = stepOf (deviceAfter at w past) w h .device
 
--- an error or a timeout: T25, T29 with CommErr, T30, T31
-abbrev pub isErrorOrTimeout : Row → Bool → Bool
-isErrorOrTimeout Stay CommErr = false
-isErrorOrTimeout T22 CommErr = false
-isErrorOrTimeout T25 CommErr = true
-isErrorOrTimeout T28 CommErr = false
-isErrorOrTimeout T29 CommErr = CommErr
-isErrorOrTimeout T30 CommErr = true
-isErrorOrTimeout T31 CommErr = true
+-- the three checks hold
+abbrev pub sound : Device → Request → Bool
+sound d q = q .«signature_holds» && q .«port_holds» && countHolds d q
 
--- how many SPDUs passed their checks since the block, or since the last error or timeout after it; of one call the watchdog's row comes first
+-- Table 39, DTimeout: "FSP_WatchdogTime expired", where DTimer runs
+abbrev pub timesOut : Device → ℕ → ℕ → Bool
+timesOut d w at = d .runs && expiredOf at (d .DTimer) w
+
+-- Table 39, CommErr: "a CRC or counter/port error in the received SPDU", of one that is taken, at a device whose watchdog has been judged
+abbrev pub errsBy : Device → Happening → Bool
+errsBy d (happening.Request at q) = isTaken d q && not (sound d q)
+errsBy d (happening.Response at response) = false
+errsBy d (happening.Clock at) = false
+errsBy d (happening.Operator at «setSD_C» «ChFAck_C») = false
+
+-- one is taken that has none
+abbrev pub passesBy : Device → Happening → Bool
+passesBy d (happening.Request at q) = isTaken d q && sound d q
+passesBy d (happening.Response at response) = false
+passesBy d (happening.Clock at) = false
+passesBy d (happening.Operator at «setSD_C» «ChFAck_C») = false
+
+-- the rows of an error, with CommErr of the SPDU
+abbrev pub isErrorRow : Row → Bool → Bool
+isErrorRow Stay CommErr = false
+isErrorRow T22 CommErr = false
+isErrorRow T25 CommErr = true
+isErrorRow T28 CommErr = false
+isErrorRow T29 CommErr = CommErr
+isErrorRow T30 CommErr = false
+isErrorRow T31 CommErr = false
+
+-- the rows of a timeout
+abbrev pub isTimeoutRow : Row → Bool
+isTimeoutRow Stay = false
+isTimeoutRow T22 = false
+isTimeoutRow T25 = false
+isTimeoutRow T28 = false
+isTimeoutRow T29 = false
+isTimeoutRow T30 = true
+isTimeoutRow T31 = true
+
+-- how many SPDUs passed their checks since the block, or since the last error or timeout after it; of one call the watchdog is judged first
 unfoldable pub passedSince : ℕ → ℕ → List Happening → ℕ
 passedSince at w [] = 0
 passedSince at w (h ∷ past) =
-    let o = stepOf (deviceAfter at w past) w h in
-    let before = cond (isErrorOrTimeout (o .watchdog) false) 0 (passedSince at w past) in
-    cond (isErrorOrTimeout (o .arrival) (isFailure (o .check))) 0 (cond (o .passed) (before + 1) before)
+    let d = deviceAfter at w past in
+    let j = judged d w (readingOf h) in
+    let before = cond (timesOut d w (readingOf h)) 0 (passedSince at w past) in
+    cond (errsBy j h) 0 (cond (passesBy j h) (before + 1) before)
 
--- whether there was one
+-- whether there was an error since the block, and whether there was a timeout
+unfoldable pub hadError : ℕ → ℕ → List Happening → Bool
+hadError at w [] = false
+hadError at w (h ∷ past) = errsBy (judged (deviceAfter at w past) w (readingOf h)) h || hadError at w past
+
+unfoldable pub hadTimeout : ℕ → ℕ → List Happening → Bool
+hadTimeout at w [] = false
+hadTimeout at w (h ∷ past) = timesOut (deviceAfter at w past) w (readingOf h) || hadTimeout at w past
+
 unfoldable pub hadErrorOrTimeout : ℕ → ℕ → List Happening → Bool
-hadErrorOrTimeout at w [] = false
-hadErrorOrTimeout at w (h ∷ past) =
-    let o = stepOf (deviceAfter at w past) w h in
-    isErrorOrTimeout (o .arrival) (isFailure (o .check)) || (isErrorOrTimeout (o .watchdog) false || hadErrorOrTimeout at w past)
+unfolding hadError hadTimeout
+hadErrorOrTimeout at w past = hadError at w past || hadTimeout at w past
+
+-- how many SPDUs were taken since the last with an error, and since the last timeout: a cycle each. One taken in the very call of a timeout
+-- comes after it
+unfoldable pub cyclesSinceError : ℕ → ℕ → List Happening → ℕ
+cyclesSinceError at w [] = 0
+cyclesSinceError at w (h ∷ past) =
+    let j = judged (deviceAfter at w past) w (readingOf h) in
+    cond (errsBy j h) 0 (cond (passesBy j h) (cyclesSinceError at w past + 1) (cyclesSinceError at w past))
+
+unfoldable pub cyclesSinceTimeout : ℕ → ℕ → List Happening → ℕ
+cyclesSinceTimeout at w [] = 0
+cyclesSinceTimeout at w (h ∷ past) =
+    let d = deviceAfter at w past in
+    let j = judged d w (readingOf h) in
+    let before = cond (timesOut d w (readingOf h)) 0 (cyclesSinceTimeout at w past) in
+    cond (errsBy j h || passesBy j h) (before + 1) before
 
 -- once it has responded, DCount_i is the mirror of the MCount last taken
 abbrev pub Mirrors : Device → Type 0
 Mirrors d = d .responded ≡ true → d .«DCount_i» ≡ inverted (d .MCount)
+
+-- whether an SPDU was taken since the block
+unfoldable pub hasTaken : ℕ → ℕ → List Happening → Bool
+hasTaken at w [] = false
+hasTaken at w (h ∷ past) =
+    let j = judged (deviceAfter at w past) w (readingOf h) in
+    errsBy j h || passesBy j h || hasTaken at w past
 
 -- MCount of the last SPDU taken, at a device whose watchdog has been judged: that of this happening's, else the one before
 unfoldable pub takenBy : Device → Happening → ℕ → ℕ
@@ -79,6 +142,18 @@ takenBy d (happening.Operator at «setSD_C» «ChFAck_C») before = before
 unfoldable pub lastTaken : ℕ → ℕ → List Happening → ℕ
 lastTaken at w [] = 0
 lastTaken at w (h ∷ past) = takenBy (judged (deviceAfter at w past) w (readingOf h)) h (lastTaken at w past)
+
+-- its ChFAckReq, in the same way
+unfoldable pub askedBy : Device → Happening → Bool → Bool
+askedBy d (happening.Request at q) before = cond (isTaken d q) (q .ChFAckReq) before
+askedBy d (happening.Response at response) before = before
+askedBy d (happening.Clock at) before = before
+askedBy d (happening.Operator at «setSD_C» «ChFAck_C») before = before
+
+-- R19: 0 after a block
+unfoldable pub lastAsked : ℕ → ℕ → List Happening → Bool
+lastAsked at w [] = false
+lastAsked at w (h ∷ past) = askedBy (judged (deviceAfter at w past) w (readingOf h)) h (lastAsked at w past)
 
 -- a row acts, and restarts DTimer
 abbrev pub acts : Row → Bool
@@ -105,10 +180,6 @@ lastTakenAt at w (h ∷ past) = cond (acts (stepOf (deviceAfter at w past) w h .
 -- in one of the three waits
 abbrev pub waits : Device → Bool
 waits d = eqb (d .state) 21 || eqb (d .state) 24 || eqb (d .state) 26
-
--- the three checks hold
-abbrev pub sound : Device → Request → Bool
-sound d q = q .«signature_holds» && q .«port_holds» && countHolds d q
 
 -- all readings moved by k on the clock
 unfoldable pub movedDevice : ℕ → Device → Device
