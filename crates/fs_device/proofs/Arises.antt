@@ -7,6 +7,7 @@ use mathlib.Core.Bool.{Bool, true, false, cond, not, _&&_}
 use mathlib.Core.List.{List, [], _∷_, map}
 use lib.Dec.{eqb}
 use Rattle.scl.specs.Time.{elapsedOf}
+use Rattle.scl.specs.Readings.{lastReading}
 use Rattle.scl.specs.Counts.{inverted}
 use Rattle.scl.specs.Moved.{moved, movedHappening, movedPast, none, more}
 use Rattle.scl.specs.declared.Happening.{Happening}
@@ -19,9 +20,9 @@ use Rattle.scl.specs.declared.Mark.the-variants.{Fresh, GoesOn, Safe}
 use Rattle.fs_device.specs.declared.Device.{Device}
 use Rattle.fs_device.specs.declared.Row.{Row}
 use Rattle.fs_device.specs.declared.Row.the-variants.{Stay, T22, T25, T28, T29, T30, T31}
-use Rattle.fs_device.specs.Table40.{watchdogRow, isTaken, checked, arrivalRow, taken, t22, t25, t28, t29, t30t31, acted}
+use Rattle.fs_device.specs.Table40.{watchdogRow, isTaken, checked, arrivalRow, taken, t22, t25, t28, t29, t30t31, acted, rowNumberOf}
 use Rattle.fs_device.specs.Calls.{judged, quiet, arrived, received, watched, stepOf, stands}
-use Rattle.fs_device.specs.History.{FreshBy, deviceAfter, passedSince, hadError, hadTimeout, hadErrorOrTimeout, cyclesSinceError, cyclesSinceTimeout, hasTaken, lastTaken, movedDevice, movedOutcome, lastTakenAt}
+use Rattle.fs_device.specs.History.{FreshBy, deviceAfter, passedSince, hadError, hadTimeout, hadErrorOrTimeout, cyclesSinceError, cyclesSinceTimeout, hasTaken, lastTaken, movedDevice, movedOutcome, lastRow, lastTakenAt}
 use Rattle.fs_device.proofs.Release as release
 use Rattle.fs_device.proofs.Faults as faults
 use Rattle.fs_device.proofs.Watchdog as watchdog
@@ -159,6 +160,18 @@ releasing = happening.Request 44 (intact 3)
 
 abbrev beside : Happening
 beside = response 144
+
+-- what the theorems' words come to: neither another end's SPDU nor a timeout moves the reading of the last SPDU taken; and the numbers of the rows
+-- outside are 000's
+pub record Words : Type 0 where
+  pub taken-at : lastTakenAt block 100 (pastBefore 8) ≡ 44
+  pub row-at : lastRow block 100 (pastBefore 20) ≡ 335
+  pub still-at : lastTakenAt block 100 (pastBefore 20) ≡ 234
+  pub numbers : map rowNumberOf (Stay ∷ T22 ∷ T25 ∷ T28 ∷ T29 ∷ T30 ∷ T31 ∷ []) ≡ 0 ∷ 22 ∷ 25 ∷ 28 ∷ 29 ∷ 30 ∷ 31 ∷ []
+
+pub words : Words
+unfolding worked upTo lastReading deviceAfter stepOf watched received arrived quiet judged acted watchdogRow isTaken checked arrivalRow taken t22 t25 t28 t29 t30t31 elapsedOf
+words = record { taken-at = refl; row-at = refl; still-at = refl; numbers = refl }
 
 -- the theorems of these names, of calls of the history
 pub record Met : Type 0 where

@@ -7,8 +7,9 @@ use Rattle.scl.specs.Happenings.{isFailure, readingOf}
 use Rattle.scl.specs.declared.Happening.{Happening}
 use Rattle.scl.specs.declared.Happening.the-variants as happening
 use Rattle.scl.specs.declared.Check.{Check}
-use Rattle.scl.proofs.Cases.{cond-case, cond-both}
+use Rattle.scl.proofs.Cases.{cond-both}
 use Rattle.scl.proofs.Time.{shifted}
+use Rattle.scl.proofs.Watchdog.{last-fits}
 use Rattle.scl.specs.declared.Request.{Request}
 use Rattle.fs_device.specs.declared.Device.{Device}
 use Rattle.fs_device.specs.declared.Outcome.{Outcome}
@@ -17,7 +18,7 @@ use Rattle.fs_device.specs.declared.Row.the-variants.{Stay, T22, T25, T2
 use Rattle.fs_device.specs.Table40.{watchdogRow, isOld, isTaken, checked, arrivalRow, taken, t22, t25, t28, t29, t30t31, acted, firstDevice}
 use Rattle.fs_device.specs.Calls.{judged, quiet, arrived, received, watched, stepOf}
 use Rattle.scl.specs.Moved.{moved, movedHappening, movedPast, OnClock, none, more}
-use Rattle.fs_device.specs.History.{deviceAfter, acts, lastRow, movedDevice, movedOutcome}
+use Rattle.fs_device.specs.History.{deviceAfter, arrives, watches, movedDevice, movedOutcome}
 use Rattle.fs_device.proofs.Watchdog.{timer-reads}
 
 module _ (k : ℕ) where
@@ -100,15 +101,8 @@ unfolding movedDevice
 moved-first k at = refl
 
 -- DTimer is a reading of the history
-last-fits : (at w : ℕ) (past : List Happening) → at < 2 ^ 32 → OnClock past → lastRow at w past < 2 ^ 32
-unfolding lastRow
-last-fits at w [] fits none = fits
-last-fits at w (h ∷ past) fits (more reading-fits rest) =
-    let o = stepOf (deviceAfter at w past) w h in
-    cond-case (λ (t : ℕ). t < 2 ^ 32) (acts (o .arrival) || acts (o .watchdog)) (λ _. reading-fits) (λ _. last-fits at w past fits rest)
-
 timer-fits : (at w : ℕ) (past : List Happening) → at < 2 ^ 32 → OnClock past → deviceAfter at w past .DTimer < 2 ^ 32
-timer-fits at w past fits on = rw (timer-reads at w past) (last-fits at w past fits on)
+timer-fits at w past fits on = rw (timer-reads at w past) (last-fits (deviceAfter at w) (λ d h. arrives w d h || watches w d h) at fits on)
 
 module _ (k at w : ℕ) where
   abbrev Moves : List Happening → Type 0

@@ -5,14 +5,14 @@ use mathlib.Core.Path.{_≡_, refl, sym, ap, _∙_}
 use mathlib.Core.Bool.{Bool, true, false, cond, not, _||_}
 use mathlib.Core.List.{List, [], _∷_}
 use mathlib.Core.Logic.{_⊎_, inl, inr}
-use lib.Dec.{eqb, ltb}
-use borrow.Author.Tests.{eqb-false, ltb-true, ltb-false, lt-ltb, not-true}
+use lib.Dec.{eqb}
+use borrow.Author.Tests.{eqb-false, lt-ltb, not-true}
 use Rattle.scl.specs.Time.{elapsedOf}
 use Rattle.scl.specs.Happenings.{readingOf, isFailure}
 use Rattle.scl.specs.declared.Happening.{Happening}
 use Rattle.scl.specs.declared.Happening.the-variants as happening
 use Rattle.scl.specs.declared.Request.{Request}
-use Rattle.scl.proofs.Time.{forward}
+use Rattle.scl.proofs.Watchdog as law
 use Rattle.scl.proofs.Cases.{cond-case, cond-or, no}
 use Rattle.fs_device.specs.declared.Device.{Device}
 use Rattle.fs_device.specs.declared.Outcome.{Outcome}
@@ -20,7 +20,7 @@ use Rattle.fs_device.specs.declared.Row.{Row}
 use Rattle.fs_device.specs.declared.Row.the-variants.{Stay, T30, T31}
 use Rattle.fs_device.specs.Table40.{watchdogRow, isOld, isTaken, checked, arrivalRow, t22, t25, t28, t29, t30t31, acted}
 use Rattle.fs_device.specs.Calls.{judged, quiet, arrived, received, watched, stepOf}
-use Rattle.fs_device.specs.History.{deviceAfter, timesOut, isTimeoutRow, waits, acts, lastRow, lastTakenAt}
+use Rattle.fs_device.specs.History.{deviceAfter, timesOut, isTimeoutRow, waits, acts, arrives, watches, lastRow, lastTakenAt}
 use Rattle.fs_device.proofs.Rows.{judged-case, timeout-case, row-case, step-case, call-case}
 use Rattle.fs_device.proofs.Faults.{waits-always}
 
@@ -81,20 +81,13 @@ step-timed d w (happening.Clock at) = judged-timed d w at
 step-timed d w (happening.Operator at «setSD_C» «ChFAck_C») = judged-timed d w at
 
 module _ (at w : ℕ) where
-  -- DTimer runs exactly outside of state 21, and reads the last call in which a row acted
+  -- DTimer runs exactly outside of state 21,
   pub timer-runs : (past : List Happening) → deviceAfter at w past .runs ≡ not (eqb (deviceAfter at w past .state) 21)
   unfolding deviceAfter
   timer-runs [] = refl
   timer-runs (h ∷ past) = step-timed (deviceAfter at w past) w h .goes (timer-runs past)
 
-  pub timer-reads : (past : List Happening) → deviceAfter at w past .DTimer ≡ lastRow at w past
-  unfolding deviceAfter lastRow
-  timer-reads [] = refl
-  timer-reads (h ∷ past) =
-      let o = stepOf (deviceAfter at w past) w h in
-      step-timed (deviceAfter at w past) w h .reads ∙ ap (λ (t : ℕ). cond (acts (o .arrival) || acts (o .watchdog)) (readingOf h) t) (timer-reads past)
-
-  -- so the watchdog's rows are T30 and T31: a timeout
+  -- so that the watchdog's rows are T30 and T31: a timeout.
   runs-in : (past : List Happening) → let d = deviceAfter at w past in d .runs ≡ true → (eqb (d .state) 24 || eqb (d .state) 26) ≡ true
   runs-in past e =
       let d = deviceAfter at w past in
@@ -160,67 +153,34 @@ still-judged d w at = judged-case d w at (λ r n. n .released ≡ true → (acts
 arrival-acts : (d : Device) (at : ℕ) (q : Request) (CommErr : Bool) → acts (arrivalRow d CommErr) ≡ true
 arrival-acts d at q CommErr = row-case d at q (λ r _ _. acts r ≡ true) CommErr (λ _. refl) (λ _. refl) (λ _ _. refl) (λ _. refl)
 
-abbrev Still : Device → ℕ → ℕ → Outcome → Type 0
-Still d w at o = (acts (o .arrival) ≡ true) ⊎ ((acts (o .arrival) ≡ false) × ((acts (watchdogRow d w at) ≡ false) × (d .released ≡ true)))
+abbrev Still : Device → Outcome → Type 0
+Still d o = (acts (o .arrival) ≡ true) ⊎ ((acts (o .arrival) ≡ false) × ((acts (o .watchdog) ≡ false) × (d .released ≡ true)))
 
-still : (d : Device) (w : ℕ) (h : Happening) → stepOf d w h .device .released ≡ true → Still d w (readingOf h) (stepOf d w h)
+still : (d : Device) (w : ℕ) (h : Happening) → stepOf d w h .device .released ≡ true → Still d (stepOf d w h)
 unfolding quiet arrived
 still d w h =
     let j = judged d w (readingOf h) in
-    step-case d w (λ _ _ o. o .device .released ≡ true → Still d w (readingOf h) o) h
+    step-case d w (λ _ _ o. o .device .released ≡ true → Still d o) h
     (λ _ e. inr (refl, still-judged d w (readingOf h) e))
     (λ at q _. inl (arrival-acts j at q (isFailure (checked j q))))
 
 module _ (at w : ℕ) where
-  watchdog-is : (past : List Happening) (h : Happening) → acts (watchdogRow (deviceAfter at w past) w (readingOf h)) ≡ false → acts (stepOf (deviceAfter at w past) w h .watchdog) ≡ false
-  watchdog-is past h e = ap acts (step-watchdog (deviceAfter at w past) w h) ∙ e
-
-  released-runs : (past : List Happening) → deviceAfter at w past .released ≡ true → deviceAfter at w past .runs ≡ true
+  timed : law.Watched (deviceAfter at w) (λ d. d .runs) (λ d. d .released) (λ d. d .DTimer) (arrives w) (watches w) at w
   unfolding deviceAfter
-  released-runs [] e = no (sym e)
-  released-runs (h ∷ past) e = go (released-runs past) (still d w h e)
-    where
-      d : Device
-      d = deviceAfter at w past
+  timed = record {
+    first-reads = refl;
+    first-silent = refl;
+    reads = λ past h. step-timed (deviceAfter at w past) w h .reads;
+    runs-is = λ past h. step-timed (deviceAfter at w past) w h .runs-is;
+    still = λ past h. still (deviceAfter at w past) w h;
+    late = late at w;
+  }
 
-      go : (d .released ≡ true → d .runs ≡ true) → Still d w (readingOf h) (stepOf d w h) → stepOf d w h .device .runs ≡ true
-      go before (inl a) = step-timed d w h .runs-is ∙ simp a
-      go before (inr n) = step-timed d w h .runs-is ∙ simp (n .0, watchdog-is past h (n .1 .0)) (before (n .1 .1))
-
-  released-last : (past : List Happening) → deviceAfter at w past .released ≡ true → lastRow at w past ≡ lastTakenAt at w past
-  unfolding deviceAfter lastRow lastTakenAt
-  released-last [] e = refl
-  released-last (h ∷ past) e = go (released-last past) (still d w h e)
-    where
-      d : Device
-      d = deviceAfter at w past
-
-      go : (d .released ≡ true → lastRow at w past ≡ lastTakenAt at w past) → Still d w (readingOf h) (stepOf d w h) → lastRow at w (h ∷ past) ≡ lastTakenAt at w (h ∷ past)
-      go before (inl a) = simp a
-      go before (inr n) = simp (n .0, watchdog-is past h (n .1 .0)) (before (n .1 .1))
-
-  not-late : (past : List Happening) (h : Happening) → deviceAfter at w past .runs ≡ true → deviceAfter at w (h ∷ past) .released ≡ true
-      → elapsedOf (readingOf h) (deviceAfter at w past .DTimer) ≤ w
-  not-late past h runs e = go (ltb w elapsed) refl
-    where
-      elapsed : ℕ
-      elapsed = elapsedOf (readingOf h) (deviceAfter at w past .DTimer)
-
-      go : (b : Bool) → ltb w elapsed ≡ b → elapsed ≤ w
-      go true over = no (sym e ∙ late at w past h runs (ltb-true w elapsed over))
-      go false over = ltb-false w elapsed over
+  -- DTimer reads the last call in which a row acted.
+  pub timer-reads : (past : List Happening) → deviceAfter at w past .DTimer ≡ lastRow at w past
+  timer-reads past = law.timer-reads (deviceAfter at w) (λ d. d .runs) (λ d. d .released) (λ d. d .DTimer) (arrives w) (watches w) at w timed past
 
   -- After no call is a value released whose last SPDU lies more than W back.
   pub released-in-time : (past : List Happening) (h : Happening) → readingOf h < 2 ^ 32 → deviceAfter at w (h ∷ past) .released ≡ true
       → elapsedOf (readingOf h) (lastTakenAt at w (h ∷ past)) ≤ w
-  unfolding deviceAfter lastTakenAt
-  released-in-time past h small e = go (still d w h e)
-    where
-      d : Device
-      d = deviceAfter at w past
-
-      go : Still d w (readingOf h) (stepOf d w h) → elapsedOf (readingOf h) (lastTakenAt at w (h ∷ past)) ≤ w
-      go (inl a) = simp a (rw (forward (readingOf h) (readingOf h) small (omega arith)) (omega arith))
-      go (inr n) =
-          simp (n .0)
-          (rw (sym (released-last past (n .1 .1)), sym (timer-reads at w past)) (not-late past h (released-runs past (n .1 .1)) e))
+  released-in-time past h = law.released-in-time (deviceAfter at w) (λ d. d .runs) (λ d. d .released) (λ d. d .DTimer) (arrives w) (watches w) at w timed past h

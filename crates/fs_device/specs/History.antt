@@ -7,6 +7,7 @@ use mathlib.Core.List.{List, [], _∷_}
 use Rattle.scl.specs.Counts.{inverted}
 use Rattle.scl.specs.Time.{expiredOf}
 use Rattle.scl.specs.Happenings.{readingOf}
+use Rattle.scl.specs.Readings.{lastReading}
 use Rattle.scl.specs.Moved.{moved}
 use Rattle.scl.specs.declared.Happening.{Happening}
 use Rattle.scl.specs.declared.Happening.the-variants as happening
@@ -165,17 +166,20 @@ acts T29 = true
 acts T30 = true
 acts T31 = true
 
+-- in a call: the row of an SPDU that is taken, and the watchdog's
+abbrev pub arrives : ℕ → Device → Happening → Bool
+arrives w d h = acts (stepOf d w h .arrival)
+
+abbrev pub watches : ℕ → Device → Happening → Bool
+watches w d h = acts (stepOf d w h .watchdog)
+
 -- the reading of the last call in which one did, or the block's
-unfoldable pub lastRow : ℕ → ℕ → List Happening → ℕ
-lastRow at w [] = at
-lastRow at w (h ∷ past) =
-    let o = stepOf (deviceAfter at w past) w h in
-    cond (acts (o .arrival) || acts (o .watchdog)) (readingOf h) (lastRow at w past)
+abbrev pub lastRow : ℕ → ℕ → List Happening → ℕ
+lastRow at w past = lastReading (deviceAfter at w) (λ d h. arrives w d h || watches w d h) at past
 
 -- the reading of the last call whose SPDU was taken, or the block's
-unfoldable pub lastTakenAt : ℕ → ℕ → List Happening → ℕ
-lastTakenAt at w [] = at
-lastTakenAt at w (h ∷ past) = cond (acts (stepOf (deviceAfter at w past) w h .arrival)) (readingOf h) (lastTakenAt at w past)
+abbrev pub lastTakenAt : ℕ → ℕ → List Happening → ℕ
+lastTakenAt at w past = lastReading (deviceAfter at w) (arrives w) at past
 
 -- in one of the three waits
 abbrev pub waits : Device → Bool
