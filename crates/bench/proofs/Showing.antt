@@ -1,6 +1,6 @@
 -- What a running port shows is what 01 says of the samples since its last accepted block. Assumes nothing.
 use Prim.Native.Nat.{ℕ, _<_}
-use mathlib.Core.Path.{_≡_, refl, _∙_}
+use mathlib.Core.Path.{_≡_, refl, ap, _∙_}
 use mathlib.Core.Bool.{false, cond}
 use mathlib.Core.List.{List}
 use lib.Dec.{eqb, leb}
@@ -50,16 +50,16 @@ module _ (q : ℕ) (known : outside 1 8 q ≡ false) (p : Port) (at : ℕ) (para
   pub bins-shown : (i : ℕ) → i < binCount
       → getD (binsOf q p .bins) i 0 ≡ inBin (params .«FSP_WatchdogTime») i (take limit (samples at (params .«FSP_WatchdogTime») past))
   unfolding binsOf
-  bins-shown i h = rw shows (s .counted .bins i h)
+  bins-shown i h = ap (λ (n : Port). getD (n .bins) i 0) shows ∙ s .counted .bins i h
 
   pub bins-many : length (binsOf q p .bins) ≡ binCount
   unfolding binsOf
-  bins-many = rw shows (s .counted .size)
+  bins-many = ap (λ (n : Port). length (n .bins)) shows ∙ s .counted .size
 
   -- "The total is the number of samples since the last accepted block"
   pub total-shown : binsOf q p .total ≡ length (take limit (samples at (params .«FSP_WatchdogTime») past))
   unfolding binsOf
-  total-shown = rw shows (s .counted .total)
+  total-shown = ap (λ (n : Port). n .live .totals .total) shows ∙ s .counted .total
 
   -- the frozen mark is set exactly where there are as many samples as the limit, or more
   pub frozen-shown : binsOf q p .frozen ≡ leb limit (length (samples at (params .«FSP_WatchdogTime») past))

@@ -23,7 +23,9 @@ standing-line : (q : ℕ) (p : Port) (at : ℕ) (params : Params) (past : List H
     let counted = take limit (samples at w past) in
     lineOfPort q p ≡ portLine q w (length counted) (lowestOf counted) (highestOf counted)
 unfolding lineOfPort
-standing-line q p at params past s = rw (s .running, s .parameters, s .counted .total, s .counted .lowest, s .counted .highest)
+standing-line q p at params past s =
+    rw (s .running)
+    (λ i. portLine q (s .parameters i .«FSP_WatchdogTime») (s .counted .total i) (s .counted .lowest i) (s .counted .highest i))
 
 -- of every list of records, for a port
 module _ (rs : List Entry) (q : ℕ) (known : outside 1 8 q ≡ false) where
