@@ -47,67 +47,122 @@ both-kept a hold = go (isTaken a) refl hold
     go true f false e = no (sym e)
     go false f hold e = no (sym e ∙ f)
 
--- ---- the FS-Master's SPDU, in an image that is composed
-
-module _ (q : ℕ) (p : Port) (process other octets : List ℕ) where
+module _ (q : ℕ) (p : Port) where
   abbrev params : Params
   params = p .setting .params
 
   abbrev mode : ℕ
   mode = p .setting .params .«FSP_ProtMode»
 
-  abbrev master : Master
-  master = p .live .master
+  -- what is sent with these process octets and this control or status octet
+  abbrev spdu : List ℕ → ℕ → List ℕ
+  spdu process control = spduWith byBits mode process (params .«FSP_Port») control
 
-  -- it stands first (R3)
-  abbrev pub sent : List ℕ
-  sent = take (params .SPDUOutLength) (composed q p process other octets)
+  abbrev answer : Answer
+  answer = answerBy Taken (callRules q (p .setting))
 
-  abbrev values : List ℕ
-  values = processSent (master .setSD) process
+  -- ---- the FS-Master's SPDU, in an image that is composed
 
-  abbrev control : ℕ
-  control = controlOctet (master .MCount) (master .setSD) (master .ChFAckReq)
+  module _ (process other octets : List ℕ) where
+    abbrev master : Master
+    master = p .live .master
 
-  module _ (taken : isTaken (composeAnswer q p process other octets) ≡ true) where
-    kept : (isTaken (answerBy Taken (callRules q (p .setting))) ≡ true) × (image.composerHolds params (length process) (length other) (length octets) ≡ true)
-    unfolding composeAnswer
-    kept = both-kept (answerBy Taken (callRules q (p .setting))) (image.composerHolds params (length process) (length other) (length octets)) taken
+    -- it stands first (R3)
+    abbrev pub sent : List ℕ
+    sent = take (params .SPDUOutLength) (composed q p process other octets)
 
-    size : length process + safetyOctets mode ≡ params .SPDUOutLength
-    size =
-        eqb-true (length process + safetyOctets mode) (params .SPDUOutLength)
-        (and-left (eqb (length process + safetyOctets mode) (params .SPDUOutLength)) (eqb (length other) (params .OutputDataLength))
-        (and-left (eqb (length process + safetyOctets mode) (params .SPDUOutLength) && eqb (length other) (params .OutputDataLength)) (eqb (length octets) (params .SPDUOutLength + params .OutputDataLength)) (kept .1)))
+    abbrev values : List ℕ
+    values = processSent (master .setSD) process
 
-    values-size : length values + safetyOctets mode ≡ params .SPDUOutLength
-    values-size = ap (λ (n : ℕ). n + safetyOctets mode) (cond-case (λ (l : List ℕ). length l ≡ length process) (master .setSD) (λ _. length-replicate (length process) 0) (λ _. refl)) ∙ size
+    abbrev control : ℕ
+    control = controlOctet (master .MCount) (master .setSD) (master .ChFAckReq)
 
-    sent-is : sent ≡ spduWith byBits mode values (params .«FSP_Port») control
-    unfolding composed
-    sent-is =
-        let spdu = spduWith byBits mode values (params .«FSP_Port») control in
-        ap₂ (λ (t hold : Bool). take (params .SPDUOutLength) (cond t (cond hold (spdu ++ other) octets) octets)) (kept .0) (kept .1)
-        ∙ take-at spdu other (params .SPDUOutLength) (spdu-length byBits mode values (params .«FSP_Port») control ∙ values-size)
+    module _ (taken : isTaken (composeAnswer q p process other octets) ≡ true) where
+      kept : (isTaken answer ≡ true) × (image.composerHolds params (length process) (length other) (length octets) ≡ true)
+      unfolding composeAnswer
+      kept = both-kept answer (image.composerHolds params (length process) (length other) (length octets)) taken
 
-    -- "FS-Master, o - H octets as lent where setSD = 0 and zeros where it is 1" (R25)
-    pub process-sent : processOf mode sent ≡ cond (master .setSD) (replicate (octetsOut p) 0) process
-    process-sent =
-        let n : length process ≡ octetsOut p = omega (arith, size) in
-        ap (processOf mode) sent-is ∙ read-process byBits mode values (params .«FSP_Port») control
-        ∙ ap (λ (n : ℕ). cond (master .setSD) (replicate n 0) process) n
+      size : length process + safetyOctets mode ≡ params .SPDUOutLength
+      size =
+          let fits = eqb (length process + safetyOctets mode) (params .SPDUOutLength) in
+          let others = eqb (length other) (params .OutputDataLength) in
+          eqb-true (length process + safetyOctets mode) (params .SPDUOutLength)
+          (and-left fits others (and-left (fits && others) (eqb (length octets) (params .SPDUOutLength + params .OutputDataLength)) (kept .1)))
 
-    -- what the FS-Device of the same parameters reads
-    pub request-sent : requestBy byBits params sent ≡ requestBack (master .MCount) (master .setSD) (master .ChFAckReq)
-    request-sent =
-        ap (requestBy byBits params) sent-is
-        ∙ request-back params values (master .MCount) (master .setSD) (master .ChFAckReq) values-size
+      values-size : length values + safetyOctets mode ≡ params .SPDUOutLength
+      values-size =
+          ap (λ (n : ℕ). n + safetyOctets mode)
+          (cond-case (λ (l : List ℕ). length l ≡ length process) (master .setSD) (λ _. length-replicate (length process) 0) (λ _. refl))
+          ∙ size
 
-    -- so the SPDU that goes out has zeros exactly where it carries setSD 1
-    pub zeros-with-setSD : processOf mode sent ≡ cond (requestBy byBits params sent .setSD) (replicate (octetsOut p) 0) process
-    zeros-with-setSD = process-sent ∙ ap (λ (r : Request). cond (r .setSD) (replicate (octetsOut p) 0) process) (sym request-sent)
+      sent-is : sent ≡ spdu values control
+      unfolding composed
+      sent-is =
+          ap₂ (λ (t hold : Bool). take (params .SPDUOutLength) (cond t (cond hold (spdu values control ++ other) octets) octets)) (kept .0) (kept .1)
+          ∙ take-at (spdu values control) other (params .SPDUOutLength) (spdu-length byBits mode values (params .«FSP_Port») control ∙ values-size)
 
--- after every list of calls: while a fault is open at the port, safe values go out
+      -- "FS-Master, o - H octets as lent where setSD = 0 and zeros where it is 1" (R25)
+      pub process-sent : processOf mode sent ≡ cond (master .setSD) (replicate (octetsOut p) 0) process
+      process-sent =
+          let n : length process ≡ octetsOut p = omega (arith, size) in
+          ap (processOf mode) sent-is ∙ read-process byBits mode values (params .«FSP_Port») control
+          ∙ ap (λ (n : ℕ). cond (master .setSD) (replicate n 0) process) n
+
+      -- what the FS-Device of the same parameters reads
+      pub request-sent : requestBy byBits params sent ≡ requestBack (master .MCount) (master .setSD) (master .ChFAckReq)
+      request-sent =
+          ap (requestBy byBits params) sent-is
+          ∙ request-back params values (master .MCount) (master .setSD) (master .ChFAckReq) values-size
+
+      -- "zeros sent exactly when setSD = 1" (R17b), of the SPDU alone: exactly where it carries setSD 1
+      pub zeros-with-setSD : processOf mode sent ≡ cond (requestBy byBits params sent .setSD) (replicate (octetsOut p) 0) process
+      zeros-with-setSD = process-sent ∙ ap (λ (r : Request). cond (r .setSD) (replicate (octetsOut p) 0) process) (sym request-sent)
+
+  -- ---- the FS-Device's SPDU
+
+  module _ (process out : List ℕ) (taken : isTaken (buildAnswer q p process out) ≡ true) where
+    abbrev device : Device
+    device = p .live .device
+
+    abbrev response : List ℕ
+    response = responseOut q p process out
+
+    abbrev status : ℕ
+    status = statusOctet (device .«DCount_i») (device .SDset) (device .DCommErr) (device .DTimeout)
+
+    held : (isTaken answer ≡ true) × (buffersHold mode (params .SPDUInLength) (length process) (length out) ≡ true)
+    unfolding buildAnswer
+    held = both-kept answer (buffersHold mode (params .SPDUInLength) (length process) (length out)) taken
+
+    sizes : (length process + safetyOctets mode ≡ params .SPDUInLength) × (length out ≡ params .SPDUInLength)
+    sizes =
+        let fits = eqb (length process + safetyOctets mode) (params .SPDUInLength) in
+        let outs = eqb (length out) (params .SPDUInLength) in
+        (eqb-true (length process + safetyOctets mode) (params .SPDUInLength) (and-left fits outs (held .1)), eqb-true (length out) (params .SPDUInLength) (and-right fits outs (held .1)))
+
+    response-is : {responded : Bool} → device .responded ≡ responded → response ≡ cond responded (spdu process status) (replicate (length out) 0)
+    unfolding responseOut
+    response-is e =
+        ap₂ (λ (t hold : Bool). cond t (cond hold (cond (device .responded) (spdu process status) (replicate (length out) 0)) out) out) (held .0) (held .1)
+        ∙ ap (λ (b : Bool). cond b (spdu process status) (replicate (length out) 0)) e
+
+    module _ (responded : device .responded ≡ true) where
+      -- "FS-Device, m - H octets of PDin_D in every row" (R25)
+      pub process-answered : processOf mode response ≡ process
+      process-answered = ap (processOf mode) (response-is responded) ∙ read-process byBits mode process (params .«FSP_Port») status
+
+      -- what the FS-Master of the same parameters reads
+      pub response-sent : responseBy byBits params response ≡ responseBack (device .«DCount_i») (device .SDset) (device .DCommErr) (device .DTimeout)
+      response-sent =
+          ap (responseBy byBits params) (response-is responded)
+          ∙ response-back params process (device .«DCount_i») (device .SDset) (device .DCommErr) (device .DTimeout) (sizes .0)
+
+    -- before its first response: zeros, which the FS-Master ignores (R12, R23)
+    pub zeros-first : device .responded ≡ false → responseBy byBits params response ≡ zerosBack params
+    zeros-first not-yet = ap (responseBy byBits params) (response-is not-yet ∙ ap (λ (n : ℕ). replicate n 0) (sizes .1)) ∙ zeros-back params
+
+-- ---- after every list of calls: while a fault is open at the port, safe values go out
+
 module _ (q : ℕ) (known : outside 1 8 q ≡ false) (calls : List Call) (at : ℕ) (params : Params) (past : List Happening)
     (block : sinceBlock q calls ≡ since at params past) (faulty : fault at (params .«FSP_WatchdogTime») past ≡ None → ⊥) where
   abbrev port : Port
@@ -125,63 +180,3 @@ module _ (q : ℕ) (known : outside 1 8 q ≡ false) (calls : List Call) (at : �
     process-sent q port process other octets taken ∙ ap (λ (b : Bool). cond b (replicate (octetsOut port) 0) process) safe-set,
     ap (λ (r : Request). r .setSD) (request-sent q port process other octets taken) ∙ safe-set,
   )
-
--- ---- the FS-Device's SPDU
-
-module _ (q : ℕ) (p : Port) (process out : List ℕ) (taken : isTaken (buildAnswer q p process out) ≡ true) where
-  abbrev device : Device
-  device = p .live .device
-
-  abbrev answer : List ℕ
-  answer = responseOut q p process out
-
-  abbrev status : ℕ
-  status = statusOctet (device .«DCount_i») (device .SDset) (device .DCommErr) (device .DTimeout)
-
-  abbrev here : Params
-  here = p .setting .params
-
-  held : (isTaken (answerBy Taken (callRules q (p .setting))) ≡ true) × (buffersHold (here .«FSP_ProtMode») (here .SPDUInLength) (length process) (length out) ≡ true)
-  unfolding buildAnswer
-  held = both-kept (answerBy Taken (callRules q (p .setting))) (buffersHold (here .«FSP_ProtMode») (here .SPDUInLength) (length process) (length out)) taken
-
-  response-size : length process + safetyOctets (here .«FSP_ProtMode») ≡ here .SPDUInLength
-  response-size =
-      eqb-true (length process + safetyOctets (here .«FSP_ProtMode»)) (here .SPDUInLength)
-      (and-left (eqb (length process + safetyOctets (here .«FSP_ProtMode»)) (here .SPDUInLength)) (eqb (length out) (here .SPDUInLength)) (held .1))
-
-  out-size : length out ≡ here .SPDUInLength
-  out-size =
-      eqb-true (length out) (here .SPDUInLength)
-      (and-right (eqb (length process + safetyOctets (here .«FSP_ProtMode»)) (here .SPDUInLength)) (eqb (length out) (here .SPDUInLength)) (held .1))
-
-  answer-is : answer ≡ cond (device .responded) (spduWith byBits (here .«FSP_ProtMode») process (here .«FSP_Port») status) (replicate (length out) 0)
-  unfolding responseOut
-  answer-is =
-      let written = cond (device .responded) (spduWith byBits (here .«FSP_ProtMode») process (here .«FSP_Port») status) (replicate (length out) 0) in
-      ap₂ (λ (t hold : Bool). cond t (cond hold written out) out) (held .0) (held .1)
-
-  module _ (responded : device .responded ≡ true) where
-    spdu-is : answer ≡ spduWith byBits (here .«FSP_ProtMode») process (here .«FSP_Port») status
-    spdu-is =
-        answer-is
-        ∙ ap (λ (b : Bool). cond b (spduWith byBits (here .«FSP_ProtMode») process (here .«FSP_Port») status) (replicate (length out) 0)) responded
-
-    -- "FS-Device, m - H octets of PDin_D in every row" (R25)
-    pub process-answered : processOf (here .«FSP_ProtMode») answer ≡ process
-    process-answered = ap (processOf (here .«FSP_ProtMode»)) spdu-is ∙ read-process byBits (here .«FSP_ProtMode») process (here .«FSP_Port») status
-
-    -- what the FS-Master of the same parameters reads
-    pub response-sent : responseBy byBits here answer ≡ responseBack (device .«DCount_i») (device .SDset) (device .DCommErr) (device .DTimeout)
-    response-sent =
-        ap (responseBy byBits here) spdu-is
-        ∙ response-back here process (device .«DCount_i») (device .SDset) (device .DCommErr) (device .DTimeout) response-size
-
-  -- before its first response: zeros, which the FS-Master ignores (R12, R23)
-  pub zeros-first : device .responded ≡ false → responseBy byBits here answer ≡ zerosBack here
-  zeros-first not-yet =
-      ap (responseBy byBits here)
-      (answer-is
-      ∙ ap (λ (b : Bool). cond b (spduWith byBits (here .«FSP_ProtMode») process (here .«FSP_Port») status) (replicate (length out) 0)) not-yet
-      ∙ ap (λ (n : ℕ). replicate n 0) out-size)
-      ∙ zeros-back here

@@ -46,7 +46,7 @@ module _ (q : ℕ) (known : outside 1 8 q ≡ false) (p : Port) (at : ℕ) (para
   unfolding seen
   shows = simp (known, s .running)
 
-  -- 01: each bin has as many of the samples as fall into it, "and is always 0 to 31"; up to the freeze
+  -- each bin has as many of the samples, up to the freeze, as have it: "t * 32 / (W + 1), rounded down"
   pub bins-shown : (i : ℕ) → i < binCount
       → getD (binsOf q p .bins) i 0 ≡ inBin (params .«FSP_WatchdogTime») i (take limit (samples at (params .«FSP_WatchdogTime») past))
   unfolding binsOf
