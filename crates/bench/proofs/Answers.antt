@@ -4,7 +4,7 @@ use mathlib.Core.Path.{_≡_, refl, ap}
 use mathlib.Core.Logic.{_↔_}
 use mathlib.Core.Bool.{Bool, true, false, cond}
 use mathlib.Core.List.{List, [], _∷_, _++_}
-use lib.ListN.{length}
+use lib.ListN.{length, take, drop}
 use Rattle.answer.specs.declared.Answer.{Answer}
 use Rattle.answer.specs.declared.Answer.the-variants.{Taken}
 use Rattle.answer.specs.Answers.{isTaken}
@@ -23,7 +23,7 @@ use Rattle.bench.specs.declared.Bench.{Bench}
 use Rattle.bench.specs.declared.Act.the-variants.{Refused, Accepted, Happens}
 use Rattle.bench.specs.Ports.{portAt, stepOf, stored, said, silent}
 use Rattle.bench.specs.Calls.{callRules, asked, askedByBlock, done, placed, responseAt, requestAt, clockAt, operatorAt, parametersAt}
-use Rattle.bench.specs.Images.{composeAnswer, composed, buildAnswer, responseOut, splitAnswer}
+use Rattle.bench.specs.Images.{composeAnswer, composed, buildAnswer, responseOut, splitAnswer, spduPart, otherPart}
 use Rattle.bench.specs.Handing.{handedTo, handedOut}
 use Rattle.bench.specs.Shown.{trendOf, binsOf, masterOf, deviceOf}
 use Rattle.bench.specs.History.{NoReading, Compose, BuildResponse, Split, HandOn, Trend, Bins, ShowMaster, ShowDevice, Call, SetParameters, ReceiveResponse, ReceiveRequest, Clock, Operator, WithoutReading, portOf, rulesWithoutReading, rulesOf, answerWithoutReading, answerOf, after, history}
@@ -136,6 +136,14 @@ pub build-refused : (port : ℕ) (p : Port) (process out : List ℕ) → isTaken
 unfolding buildAnswer responseOut
 build-refused port p process out e =
     unwritten (answerBy Taken (callRules port (p .setting))) (buffersHold (p .setting .params .«FSP_ProtMode») (p .setting .params .SPDUInLength) (length process) (length out)) _ out e
+
+-- of a refused image neither part has an octet
+pub split-refused : (port : ℕ) (p : Port) (octets : List ℕ) → isTaken (splitAnswer port p octets) ≡ false → (spduPart port p octets ≡ []) × (otherPart port p octets ≡ [])
+unfolding splitAnswer spduPart otherPart
+split-refused port p octets e =
+    let a = answerBy Taken (callRules port (p .setting)) in
+    let hold = image.splitterHolds (p .setting .params) (length octets) in
+    (unwritten a hold (take (p .setting .params .SPDUInLength) octets) [] e, unwritten a hold (drop (p .setting .params .SPDUInLength) octets) [] e)
 
 pub handed-refused : (port : ℕ) (p : Port) (e : End) (mark : Mark) (spdu safe out : List ℕ) → isTaken (handedTo port p e mark spdu safe (length out) .answer) ≡ false → handedOut port p e mark spdu safe out ≡ out
 unfolding handedTo handedOut

@@ -2,11 +2,11 @@
 -- damaged request, and the five requests of which the last releases at its FS-Device. Assumes nothing.
 use Prim.Native.Nat.{ℕ, _<_}
 use native.Mathlib.Omega.{arith}
-use mathlib.Core.Path.{_≡_, refl}
-use mathlib.Core.Bool.{true, false, cond}
+use mathlib.Core.Path.{_≡_, refl, sym, ap, _∙_}
+use mathlib.Core.Bool.{Bool, true, false, cond}
 use mathlib.Core.List.{List, [], _∷_, _++_}
 use lib.Dec.{eqb, leb}
-use lib.ListN.{length, take, getD}
+use lib.ListN.{length, take, getD, replicate}
 use Rattle.answer.specs.declared.Answer.the-variants.{Taken, Buffer, NoPort, NotRunning, SpduLength, NoSamples}
 use Rattle.answer.specs.Answers.{isTaken}
 use Rattle.answer.specs.Rules.{answerBy}
@@ -16,6 +16,8 @@ use Rattle.signature.specs.Signature as signing
 use Rattle.spdu.specs.Signature.{byBits}
 use Rattle.spdu.specs.Fields.{responseBy, requestBy}
 use Rattle.spdu.specs.Image.{handedOn}
+use Rattle.spdu.specs.Places.{processOf}
+use Rattle.spdu.specs.RoundTrip.{requestBack, responseBack, zerosBack}
 use Rattle.scl.specs.Time.{elapsedOf}
 use Rattle.scl.specs.declared.Request.{Request}
 use Rattle.scl.specs.declared.Response.{Response}
@@ -27,12 +29,12 @@ use Rattle.fs_master.specs.Table38 as table38
 use Rattle.fs_master.specs.Calls as masters
 use Rattle.fs_master.specs.Regular as regularMasters
 use Rattle.fs_master.specs.History as masterSpecs
-use Rattle.fs_master.specs.History.{masterAfter, judgedIn, passesBy, lastTaken, isOldAfter, previousBy, hasPassed, signals, HoldsSignals, None, fault}
+use Rattle.fs_master.specs.History.{masterAfter, judgedIn, passesBy, lastTaken, isOldAfter, previousBy, hasPassed, signals, HoldsSignals, takenBy, faultyBy, None, Open, answeredBy, fault}
 use Rattle.fs_device.specs.Table40 as table40
 use Rattle.fs_device.specs.Calls as devices
 use Rattle.fs_device.specs.History as deviceSpecs
 use Rattle.fs_device.specs.History.{deviceAfter, passedSince, hadErrorOrTimeout}
-use Rattle.histogram.specs.Samples.{limit, sumOf, lowestOf, highestOf}
+use Rattle.histogram.specs.Samples.{binCount, inBin, limit, sumOf, lowestOf, highestOf}
 use Rattle.histogram.specs.Counted as counted
 use Rattle.histogram.specs.Trends.{Shows}
 use Rattle.samples.specs.Tallied.{talliedBy}
@@ -41,17 +43,20 @@ use Rattle.bench.specs.declared.Port.{Port}
 use Rattle.bench.specs.Ports.{newPort, acceptedPort, newBench, noPort, portAt, withPort, turnOf, stored, said, stepOf, silent}
 use Rattle.bench.specs.Regular.{isRegular, regularOf}
 use Rattle.bench.specs.Calls as calls
-use Rattle.bench.specs.Images.{composeAnswer, composed, buildAnswer, responseOut}
+use Rattle.bench.specs.Images.{composeAnswer, composed, buildAnswer, responseOut, splitAnswer, spduPart, otherPart}
 use Rattle.bench.specs.declared.End.the-variants as end
 use Rattle.bench.specs.Handing.{handedTo, handedOut}
 use Rattle.bench.specs.Shown.{trendOf, binsOf}
-use Rattle.bench.specs.History.{Call, SetParameters, ReceiveResponse, ReceiveRequest, Clock, portOf, answerOf, after, history, addressing, goesOn, extended, since, sinceBlock, StandsSince, Stands, Arising, blockIn, OctetsIn, no-call, one-more}
-use Rattle.bench.proofs.Answers.{refused-same, left-out, compose-refused, build-refused, handed-refused}
+use Rattle.bench.specs.History.{Call, SetParameters, ReceiveResponse, ReceiveRequest, Clock, portOf, answerOf, after, history, addressing, goesOn, extended, since, sinceBlock, StandsSince, Stands, Arising, blockIn, OctetsIn, no-call, one-more, octetsOut}
+use Rattle.bench.proofs.Answers.{refused-same, left-out, compose-refused, build-refused, split-refused, handed-refused}
 use Rattle.bench.proofs.AtPort.{eight, takenAt, taken-at, other-at, others}
 use Rattle.bench.proofs.Regulars.{regular-turn}
 use Rattle.bench.proofs.History.{stands}
-use Rattle.bench.proofs.Release.{passed-first, acknowledged, signals-hold, cycles-first, after-error}
-use Rattle.bench.proofs.Showing.{frozen-shown, trend-answer, trend-shown}
+use Rattle.bench.proofs.Release.{standing, passed-first, acknowledged, signals-hold, cycles-first, after-error}
+use Rattle.bench.proofs.Showing.{NoneShown, refused-shown, bins-shown, bins-many, total-shown, frozen-shown, trend-answer, trend-shown}
+use Rattle.bench.proofs.Silent.{NothingSaid, Says, refused-says}
+use Rattle.bench.proofs.Sent as sends
+use Rattle.bench.proofs.Sent.{sent}
 use Rattle.bench.proofs.HandedOn as handing
 use Rattle.bench.proofs.HandedAfter as handingAfter
 use Rattle.bench.proofs.Never.{arising}
@@ -127,6 +132,8 @@ record Asked : Type 0 where
   last-taken : isTaken (answerOf (history earlier) (ReceiveRequest 1 1070 request safe)) ≡ true
   clock-refused : isTaken (answerOf newBench refused) ≡ false
   one-sample : samples 1000 100 past ≡ 10 ∷ []
+  values-sent : port .live .master .setSD ≡ false
+  has-responded : port .live .device .responded ≡ true
 
 asked : Asked
 unfolding hadErrorOrTimeout deviceAfter samples isSample timeOf sentSince answered oldBy isOldAfter lastTaken previousBy masterAfter judgedIn passesBy sinceBlock extended goesOn portOf answerOf after history calls.placed calls.asked calls.askedByBlock calls.done portAt withPort newBench newPort noPort acceptedPort turnOf stored said stepOf talliedBy silent signing.signature signing.octet signing.shiftInAll signing.shiftIn elapsedOf table38.watchdogRow table38.isOld table38.isTaken table38.checked table38.from8 table38.arrivalRow table38.taken table38.sampleFrom table38.t4 table38.acted masters.judged masters.quiet masters.arrived masters.received masters.watched masters.stepOf table40.watchdogRow table40.isTaken table40.checked table40.arrivalRow table40.taken table40.t22 table40.t25 table40.t28 table40.t29 table40.acted devices.judged devices.quiet devices.arrived devices.received devices.watched devices.stepOf counted.frozenOf counted.withSample counted.countedOf counted.totalledOf
@@ -139,6 +146,8 @@ asked = record {
   last-taken = refl;
   clock-refused = refl;
   one-sample = refl;
+  values-sent = refl;
+  has-responded = refl;
 }
 
 -- blocks of octets
@@ -179,6 +188,24 @@ pub trend-shown-met :
     Shows (sumOf counted) (length counted) (lowestOf counted) (highestOf counted) (trendOf 1 port .point)
 trend-shown-met = trend-shown 1 refl port 1000 (paramsOf good) past stands-met (rw (asked .one-sample) (omega arith))
 
+pub bins-shown-met : (i : ℕ) → i < binCount → getD (binsOf 1 port .bins) i 0 ≡ inBin 100 i (take limit (samples 1000 100 past))
+bins-shown-met i h = bins-shown 1 refl port 1000 (paramsOf good) past stands-met i h
+
+pub bins-many-met : length (binsOf 1 port .bins) ≡ binCount
+bins-many-met = bins-many 1 refl port 1000 (paramsOf good) past stands-met
+
+pub total-shown-met : binsOf 1 port .total ≡ length (take limit (samples 1000 100 past))
+total-shown-met = total-shown 1 refl port 1000 (paramsOf good) past stands-met
+
+-- the one sample, 10 of 100, has the bin 3
+pub one-shown : (getD (binsOf 1 port .bins) 3 0 ≡ 1) × (binsOf 1 port .total ≡ 1)
+unfolding limit inBin
+one-shown = (rw (asked .one-sample) at (bins-shown-met 3 (omega arith)), rw (asked .one-sample) at total-shown-met)
+
+pub refused-shown-met : NoneShown (binsOf 9 port)
+unfolding binsOf
+refused-shown-met = refused-shown 9 port refl
+
 pub frozen-shown-met : binsOf 1 port .frozen ≡ leb limit (length (samples 1000 100 past))
 frozen-shown-met = frozen-shown 1 refl port 1000 (paramsOf good) past stands-met
 
@@ -187,6 +214,10 @@ trend-answer-met = trend-answer 1 refl port 1000 (paramsOf good) past stands-met
 
 pub refused-same-met : after newBench refused ≡ newBench
 refused-same-met = refused-same newBench refused (asked .clock-refused)
+
+pub refused-says-met : NothingSaid (calls.clock newBench 2 0 [] [] .reply)
+unfolding Says
+refused-says-met = refused-says newBench refused (asked .clock-refused)
 
 pub left-out-met : history (worked ++ refused ∷ []) ≡ history (worked ++ [])
 unfolding history
@@ -211,6 +242,10 @@ compose-refused-met = compose-refused 2 newPort [] [] (7 ∷ []) refl
 pub build-refused-met : responseOut 2 newPort [] (7 ∷ []) ≡ 7 ∷ []
 unfolding buildAnswer newPort
 build-refused-met = build-refused 2 newPort [] (7 ∷ []) refl
+
+pub split-refused-met : (spduPart 2 newPort (7 ∷ []) ≡ []) × (otherPart 2 newPort (7 ∷ []) ≡ [])
+unfolding splitAnswer newPort
+split-refused-met = split-refused 2 newPort (7 ∷ []) refl
 
 pub handed-refused-met : handedOut 2 newPort end.Master Fresh response safe (7 ∷ []) ≡ 7 ∷ []
 unfolding handedTo newPort
@@ -302,6 +337,78 @@ master-fresh-if-met = handing.master-fresh-if begun 1010 read (handed-met .maste
 pub device-fresh-if-met : stepOf before (happening.Request 1070 readRequest) .reply .device ≡ Fresh
 unfolding deviceSpecs.FreshBy
 device-fresh-if-met = handing.device-fresh-if before 1070 readRequest (handed-met .device-fresh-only .0)
+
+-- ---- what goes out
+
+-- buffers of the right lengths for port 1
+abbrev process : List ℕ
+process = 0x2A ∷ []
+
+abbrev image : List ℕ
+image = replicate 5 7
+
+module _ (p : Port) (at : ℕ) (past : List Happening) (s : StandsSince p at (paramsOf good) past) where
+  composes : isTaken (composeAnswer 1 p process [] image) ≡ true
+  unfolding composeAnswer
+  composes = rw (s .running, s .parameters) refl
+
+  builds : isTaken (buildAnswer 1 p process image) ≡ true
+  unfolding buildAnswer
+  builds = rw (s .running, s .parameters) refl
+
+-- a damaged response, by which a fault is open
+abbrev damaged : List Call
+damaged = ReceiveResponse 1 1010 (spdu 0xE0 0x3A 0x0E) safe ∷ accepted ∷ []
+
+abbrev faultyPast : List Happening
+faultyPast = happening.Response 1010 (responseBy byBits (paramsOf good) (spdu 0xE0 0x3A 0x0E)) ∷ []
+
+abbrev faulty : Port
+faulty = portAt (history damaged) 1
+
+faulty-block : sinceBlock 1 damaged ≡ since 1000 (paramsOf good) faultyPast
+unfolding sinceBlock extended goesOn portOf answerOf after history calls.placed calls.asked calls.askedByBlock calls.done portAt withPort newBench newPort noPort acceptedPort turnOf stored said stepOf silent signing.signature signing.octet signing.shiftInAll signing.shiftIn
+faulty-block = refl
+
+fault-open : fault 1000 100 faultyPast ≡ Open
+unfolding fault takenBy faultyBy answeredBy signals judgedIn masterAfter signing.signature signing.octet signing.shiftInAll signing.shiftIn table38.watchdogRow table38.isOld table38.isTaken table38.checked table38.arrivalRow masters.judged masters.quiet masters.arrived masters.received masters.stepOf table38.acted
+fault-open = refl
+
+is-faulty : fault 1000 100 faultyPast ≡ None → ⊥
+is-faulty e = let z : Open ≡ None = sym fault-open ∙ e in let o : _≡_ {A = ℕ} 0 1 = cc in absurd (omega arith)
+
+faulty-stands : StandsSince faulty 1000 (paramsOf good) faultyPast
+faulty-stands = standing 1 refl damaged 1000 (paramsOf good) faultyPast faulty-block
+
+no-response-yet : faulty .live .device .responded ≡ false
+unfolding deviceAfter table40.watchdogRow table40.acted devices.judged devices.quiet devices.watched devices.stepOf
+no-response-yet = rw (faulty-stands .device) refl
+
+-- process octets as lent and the FS-Device's answer to its last request; zeros with setSD 1 while the fault is open; zeros before the first response
+pub record Out : Type 0 where
+  process-sent : processOf (port .setting .params .«FSP_ProtMode») (sent 1 port process [] image) ≡ process
+  request-sent : requestBy byBits (port .setting .params) (sent 1 port process [] image) ≡ requestBack (port .live .master .MCount) false (port .live .master .ChFAckReq)
+  zeros-with-setSD : let s = sent 1 port process [] image in processOf (port .setting .params .«FSP_ProtMode») s ≡ cond (requestBy byBits (port .setting .params) s .setSD) (replicate (octetsOut port) 0) process
+  safe-while-faulty :
+      let s = sent 1 faulty process [] image in
+      (processOf (faulty .setting .params .«FSP_ProtMode») s ≡ replicate (octetsOut faulty) 0) × (requestBy byBits (faulty .setting .params) s .setSD ≡ true)
+  process-answered : processOf (port .setting .params .«FSP_ProtMode») (responseOut 1 port process image) ≡ process
+  response-sent : responseBy byBits (port .setting .params) (responseOut 1 port process image) ≡ responseBack (port .live .device .«DCount_i») (port .live .device .SDset) (port .live .device .DCommErr) (port .live .device .DTimeout)
+  zeros-first : responseBy byBits (faulty .setting .params) (responseOut 1 faulty process image) ≡ zerosBack (faulty .setting .params)
+
+pub out-met : Out
+out-met =
+    let composed = composes port 1000 past stands-met in
+    let built = builds port 1000 past stands-met in
+    record {
+      process-sent = sends.process-sent 1 port process [] image composed ∙ ap (λ (b : Bool). cond b (replicate (octetsOut port) 0) process) (asked .values-sent);
+      request-sent = sends.request-sent 1 port process [] image composed ∙ ap (λ (b : Bool). requestBack (port .live .master .MCount) b (port .live .master .ChFAckReq)) (asked .values-sent);
+      zeros-with-setSD = sends.zeros-with-setSD 1 port process [] image composed;
+      safe-while-faulty = sends.safe-while-faulty 1 refl damaged 1000 (paramsOf good) faultyPast faulty-block is-faulty process [] image (composes faulty 1000 faultyPast faulty-stands);
+      process-answered = sends.process-answered 1 port process image built (asked .has-responded);
+      response-sent = sends.response-sent 1 port process image built (asked .has-responded);
+      zeros-first = sends.zeros-first 1 faulty process image (builds faulty 1000 faultyPast faulty-stands) no-response-yet;
+    }
 
 -- ---- the response is a regular one: port 1 takes the turn that is written apart
 is-regular : isRegular (begun .setting) (begun .live) (happening.Response 1010 read) ≡ true

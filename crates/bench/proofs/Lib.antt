@@ -14,4 +14,6 @@ pub mod Never
 pub mod HandedOn
 pub mod HandedAfter
 pub mod Showing
+pub mod Silent
+pub mod Sent
 pub mod Arises

@@ -29,7 +29,7 @@ module _ (q : ℕ) (known : outside 1 8 q ≡ false) (calls : List Call) (at : �
   abbrev w : ℕ
   w = params .«FSP_WatchdogTime»
 
-  standing : StandsSince (portAt (history calls) q) at params past
+  pub standing : StandsSince (portAt (history calls) q) at params past
   unfolding Stands
   standing = rw block at (stands q known calls)
 

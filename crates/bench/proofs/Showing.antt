@@ -1,12 +1,13 @@
 -- What a running port shows is what 01 says of the samples since its last accepted block. Assumes nothing.
 use Prim.Native.Nat.{ℕ, _<_}
-use mathlib.Core.Path.{_≡_, refl, _∙_}
+use mathlib.Core.Path.{_≡_, refl, ap, _∙_}
 use mathlib.Core.Bool.{false, cond}
 use mathlib.Core.List.{List}
 use lib.Dec.{eqb, leb}
-use lib.ListN.{length, take}
+use lib.ListN.{length, getD, take, replicate}
 use Rattle.answer.specs.declared.Answer.{Answer}
 use Rattle.answer.specs.declared.Answer.the-variants.{Taken, NoSamples}
+use Rattle.answer.specs.Answers.{isTaken}
 use Rattle.answer.specs.Rules.{refused}
 use Rattle.ranges.specs.Fields.{outside}
 use Rattle.block.specs.declared.Params.{Params}
@@ -14,13 +15,15 @@ use Rattle.scl.specs.declared.Happening.{Happening}
 use Rattle.scl.proofs.Cases.{cond-both}
 use Rattle.histogram.specs.declared.Histogram.{Histogram}
 use Rattle.histogram.specs.declared.Trend.{Trend}
-use Rattle.histogram.specs.Samples.{limit, sumOf, lowestOf, highestOf}
+use Rattle.histogram.specs.Samples.{binCount, inBin, limit, sumOf, lowestOf, highestOf}
+use Rattle.histogram.specs.Counted.{frozenOf}
 use Rattle.histogram.specs.Trends as trends
 use Rattle.histogram.proofs.Counting.{frozen-mark}
 use Rattle.histogram.proofs.Trends as trendProofs
 use Rattle.samples.specs.Samples.{samples}
 use Rattle.bench.specs.declared.Port.{Port}
-use Rattle.bench.specs.Ports.{histogramOf}
+use Rattle.bench.specs.declared.Bins.{Bins}
+use Rattle.bench.specs.Ports.{newPort, histogramOf}
 use Rattle.bench.specs.Shown.{seen, trendOf, binsOf}
 use Rattle.bench.specs.History.{StandsSince}
 
@@ -28,10 +31,35 @@ trend-by : (h : Histogram) → refused Taken (eqb (h .total) 0) NoSamples ≡ tr
 unfolding trends.trendOf
 trend-by h = cond-both (λ (a : Answer) (t : Trend). a ≡ t .answer) (eqb (h .total) 0) refl refl
 
+-- of a refused call: no sample, whatever the port holds
+pub record NoneShown (b : Bins) : Type 0 where
+  pub bins : b .bins ≡ replicate binCount 0
+  pub total : b .total ≡ 0
+  pub frozen : b .frozen ≡ false
+
+pub refused-shown : (q : ℕ) (p : Port) → isTaken (binsOf q p .answer) ≡ false → NoneShown (binsOf q p)
+unfolding binsOf seen newPort frozenOf limit
+refused-shown q p e = rw e (record { bins = refl; total = refl; frozen = refl })
+
 module _ (q : ℕ) (known : outside 1 8 q ≡ false) (p : Port) (at : ℕ) (params : Params) (past : List Happening) (s : StandsSince p at params past) where
   shows : seen q p ≡ p
   unfolding seen
   shows = simp (known, s .running)
+
+  -- each bin has as many of the samples, up to the freeze, as have it: "t * 32 / (W + 1), rounded down"
+  pub bins-shown : (i : ℕ) → i < binCount
+      → getD (binsOf q p .bins) i 0 ≡ inBin (params .«FSP_WatchdogTime») i (take limit (samples at (params .«FSP_WatchdogTime») past))
+  unfolding binsOf
+  bins-shown i h = ap (λ (n : Port). getD (n .bins) i 0) shows ∙ s .counted .bins i h
+
+  pub bins-many : length (binsOf q p .bins) ≡ binCount
+  unfolding binsOf
+  bins-many = ap (λ (n : Port). length (n .bins)) shows ∙ s .counted .size
+
+  -- "The total is the number of samples since the last accepted block"
+  pub total-shown : binsOf q p .total ≡ length (take limit (samples at (params .«FSP_WatchdogTime») past))
+  unfolding binsOf
+  total-shown = ap (λ (n : Port). n .live .totals .total) shows ∙ s .counted .total
 
   -- the frozen mark is set exactly where there are as many samples as the limit, or more
   pub frozen-shown : binsOf q p .frozen ≡ leb limit (length (samples at (params .«FSP_WatchdogTime») past))

@@ -8,20 +8,30 @@ use lib.ListN.{replicate}
 use Rattle.answer.specs.declared.Answer.the-variants.{NotRunning}
 use Rattle.block.specs.Rules.{noParams}
 use Rattle.block.specs.Table22.{paramsOf}
+use Rattle.block.proofs.Arises as blocks
 use Rattle.spdu.specs.Signature.{byBits}
+use Rattle.spdu.specs.Fields.{responseBy}
 use Rattle.signature.specs.Signature as signing
-use Rattle.scl.specs.declared.Happening.the-variants.{Clock}
+use Rattle.scl.specs.declared.Happening.{Happening}
+use Rattle.scl.specs.declared.Happening.the-variants.{Response, Clock}
+use Rattle.scl.specs.Time.{elapsedOf}
+use Rattle.fs_master.specs.Table38 as table38
+use Rattle.fs_master.specs.Calls as masters
+use Rattle.fs_master.specs.History.{masterAfter, judgedIn, passesBy}
+use Rattle.histogram.specs.Samples.{limit}
+use Rattle.samples.specs.Samples.{oldBy, sentSince, answered, timeOf, isSample, samples}
 use Rattle.bench.specs.declared.Setting.{Setting}
 use Rattle.bench.specs.declared.Act.the-variants.{Refused, Accepted, Happens}
-use Rattle.bench.specs.Ports.{newBench, newPort, portAt, withPort, silent}
+use Rattle.bench.specs.Ports.{newBench, newPort, acceptedPort, portAt, withPort, stepOf, said, silent}
 use Rattle.bench.specs.Calls.{asked, askedByBlock, done, placed}
-use Rattle.bench.specs.History.{answerOf, after}
+use Rattle.bench.specs.History.{portOf, answerOf, after, history, never, since, goesOn, extended, sinceBlock}
 use Rattle.session.specs.declared.Stop.the-variants.{Full, Bad, Cut, End}
-use Rattle.lines.specs.Text.{numeral, refusalLine, summaryLine}
+use Rattle.lines.specs.Text.{numeral, refusalLine, summaryLine, portLine}
 use Rattle.session.specs.Text.{lineOfPort, portLines}
-use Rattle.session.specs.Run.{entry, actBy, start, applied, lineOf, closing, printed, fedOf}
+use Rattle.session.specs.Run.{Entry, entry, actBy, callsOf, start, ran, applied, lineOf, closing, printed, fedOf}
 use Rattle.session.specs.Blocks.{none, block}
 use Rattle.session.proofs.Blocks.{at-end, at-bad}
+use Rattle.session.proofs.Shown.{line-shown, no-line}
 
 -- ---- A session
 
@@ -72,3 +82,30 @@ pub each-act :
     × (actBy byBits false on (entry 3 1 0 []) ≡ Happens (Clock 0))
 unfolding asked askedByBlock signing.signature signing.octet signing.shiftInAll signing.shiftIn
 each-act = (refl, refl, refl)
+
+-- ---- A port line: of a block and a response that is a sample of 10 ms, and of a port that had no block
+
+abbrev response : List ℕ
+response = 0x2A ∷ 1 ∷ 0xE0 ∷ 0x3A ∷ 0x0F ∷ []
+
+abbrev records : List Entry
+records = entry 1 1 1000 blocks.good ∷ entry 2 1 1010 response ∷ []
+
+abbrev past : List Happening
+past = Response 1010 (responseBy byBits (paramsOf blocks.good) response) ∷ []
+
+record Since : Type 0 where
+  one : sinceBlock 1 (callsOf [] records) ≡ since 1000 (paramsOf blocks.good) past
+  none : sinceBlock 2 (callsOf [] records) ≡ never
+  sample : samples 1000 100 past ≡ 10 ∷ []
+
+since-met : Since
+unfolding sinceBlock extended goesOn portOf answerOf after history asked askedByBlock done placed portAt withPort newBench newPort silent signing.signature signing.octet signing.shiftInAll signing.shiftIn acceptedPort stepOf said samples isSample sentSince answered oldBy timeOf masterAfter judgedIn passesBy elapsedOf table38.watchdogRow table38.isOld table38.isTaken table38.acted masters.judged
+since-met = record { one = refl; none = refl; sample = refl }
+
+pub line-shown-met : lineOfPort 1 (portAt (ran start records .bench) 1) ≡ portLine 1 100 1 10 10
+unfolding limit
+line-shown-met = rw (since-met .sample) at (line-shown records 1 refl 1000 (paramsOf blocks.good) past (since-met .one))
+
+pub no-line-met : lineOfPort 2 (portAt (ran start records .bench) 2) ≡ []
+no-line-met = no-line records 2 refl (since-met .none)

@@ -3,4 +3,5 @@ pub mod Turn
 pub mod Link
 pub mod Going
 pub mod Blocks
+pub mod Shown
 pub mod Arises
