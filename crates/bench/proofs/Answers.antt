@@ -1,10 +1,10 @@
 -- Each call's answer is the number that 01's table gives, and a refused call changes nothing and writes no buffer. Assumes nothing.
 use Prim.Native.Nat.{ℕ, _<_}
-use mathlib.Core.Path.{_≡_, refl, ap}
+use mathlib.Core.Path.{_≡_, refl, sym, ap}
 use mathlib.Core.Logic.{_↔_}
 use mathlib.Core.Bool.{Bool, true, false, cond}
 use mathlib.Core.List.{List, [], _∷_, _++_}
-use lib.ListN.{length, take, drop}
+use lib.ListN.{length, take, drop, take-append-drop}
 use Rattle.answer.specs.declared.Answer.{Answer}
 use Rattle.answer.specs.declared.Answer.the-variants.{Taken}
 use Rattle.answer.specs.Answers.{isTaken}
@@ -15,6 +15,7 @@ use Rattle.block.specs.Rules.{judged}
 use Rattle.scl.specs.declared.Mark.{Mark}
 use Rattle.spdu.specs.Built.{builtAs, buffersHold}
 use Rattle.spdu.specs.Image as image
+use Rattle.spdu.proofs.Parts.{spdu-length}
 use Rattle.scl.specs.declared.Happening.{Happening}
 use Rattle.scl.proofs.Cases.{no}
 use Rattle.bench.specs.declared.Port.{Port}
@@ -27,7 +28,7 @@ use Rattle.bench.specs.Images.{composeAnswer, composed, buildAnswer, res
 use Rattle.bench.specs.Handing.{handedTo, handedOut}
 use Rattle.bench.specs.Shown.{trendOf, binsOf, masterOf, deviceOf}
 use Rattle.bench.specs.History.{NoReading, Compose, BuildResponse, Split, HandOn, Trend, Bins, ShowMaster, ShowDevice, Call, SetParameters, ReceiveResponse, ReceiveRequest, Clock, Operator, WithoutReading, portOf, rulesWithoutReading, rulesOf, answerWithoutReading, answerOf, after, history}
-use Rattle.bench.proofs.Taken.{taken-is, on-buffers}
+use Rattle.bench.proofs.Taken.{taken-is, on-buffers, both-kept}
 use Rattle.bench.proofs.Index.{placed-refused}
 
 -- ---- the answer
@@ -144,6 +145,15 @@ split-refused port p octets e =
     let a = answerBy Taken (callRules port (p .setting)) in
     let hold = image.splitterHolds (p .setting .params) (length octets) in
     (unwritten a hold (take (p .setting .params .SPDUInLength) octets) [] e, unwritten a hold (drop (p .setting .params .SPDUInLength) octets) [] e)
+
+-- of any other the two make up the image, the SPDU first with its length (R3)
+pub split-taken : (port : ℕ) (p : Port) (octets : List ℕ) → isTaken (splitAnswer port p octets) ≡ true
+    → (spduPart port p octets ++ otherPart port p octets ≡ octets) × (length (spduPart port p octets) ≡ p .setting .params .SPDUInLength)
+unfolding splitAnswer spduPart otherPart
+split-taken port p octets e =
+    let params = p .setting .params in
+    let k = both-kept (answerBy Taken (callRules port (p .setting))) (image.splitterHolds params (length octets)) e in
+    rw (k .0, k .1) (take-append-drop (params .SPDUInLength) octets, sym (spdu-length params octets (k .1)))
 
 pub handed-refused : (port : ℕ) (p : Port) (e : End) (mark : Mark) (spdu safe out : List ℕ) → isTaken (handedTo port p e mark spdu safe (length out) .answer) ≡ false → handedOut port p e mark spdu safe out ≡ out
 unfolding handedTo handedOut

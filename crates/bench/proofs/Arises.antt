@@ -4,9 +4,10 @@ use Prim.Native.Nat.{ℕ, _<_}
 use native.Mathlib.Omega.{arith}
 use mathlib.Core.Path.{_≡_, refl, sym, ap, _∙_}
 use mathlib.Core.Bool.{Bool, true, false, cond}
-use mathlib.Core.List.{List, [], _∷_, _++_}
+use mathlib.Core.List.{List, [], _∷_, _++_, map}
 use lib.Dec.{eqb, leb}
 use lib.ListN.{length, take, getD, replicate}
+use Rattle.answer.specs.declared.Answer.{Answer}
 use Rattle.answer.specs.declared.Answer.the-variants.{Taken, Buffer, NoPort, NotRunning, SpduLength, NoSamples}
 use Rattle.answer.specs.Answers.{isTaken}
 use Rattle.answer.specs.Rules.{answerBy}
@@ -22,7 +23,7 @@ use Rattle.scl.specs.Time.{elapsedOf}
 use Rattle.scl.specs.declared.Request.{Request}
 use Rattle.scl.specs.declared.Response.{Response}
 use Rattle.scl.specs.declared.Mark.{Mark}
-use Rattle.scl.specs.declared.Mark.the-variants.{Fresh}
+use Rattle.scl.specs.declared.Mark.the-variants.{Fresh, Safe}
 use Rattle.scl.specs.declared.Happening.{Happening}
 use Rattle.scl.specs.declared.Happening.the-variants as happening
 use Rattle.fs_master.specs.Table38 as table38
@@ -40,15 +41,15 @@ use Rattle.histogram.specs.Trends.{Shows}
 use Rattle.samples.specs.Tallied.{talliedBy}
 use Rattle.samples.specs.Samples.{oldBy, sentSince, answered, timeOf, isSample, samples}
 use Rattle.bench.specs.declared.Port.{Port}
-use Rattle.bench.specs.Ports.{newPort, acceptedPort, newBench, noPort, portAt, withPort, turnOf, stored, said, stepOf, silent}
+use Rattle.bench.specs.Ports.{newPort, acceptedPort, newBench, noPort, portAt, withPort, turnOf, stored, said, stepOf, silent, firstLive}
 use Rattle.bench.specs.Regular.{isRegular, regularOf}
 use Rattle.bench.specs.Calls as calls
 use Rattle.bench.specs.Images.{composeAnswer, composed, buildAnswer, responseOut, splitAnswer, spduPart, otherPart}
 use Rattle.bench.specs.declared.End.the-variants as end
 use Rattle.bench.specs.Handing.{handedTo, handedOut}
 use Rattle.bench.specs.Shown.{trendOf, binsOf}
-use Rattle.bench.specs.History.{Call, SetParameters, ReceiveResponse, ReceiveRequest, Clock, portOf, answerOf, after, history, addressing, goesOn, extended, since, sinceBlock, StandsSince, Stands, Arising, blockIn, OctetsIn, no-call, one-more, octetsOut}
-use Rattle.bench.proofs.Answers.{refused-same, left-out, compose-refused, build-refused, split-refused, handed-refused}
+use Rattle.bench.specs.History.{Call, SetParameters, ReceiveResponse, ReceiveRequest, Clock, portOf, answerOf, after, history, addressing, goesOn, extended, since, sinceBlock, StandsSince, Stands, Arising, blockIn, OctetsIn, no-call, one-more, octetsOut, Operator, WithoutReading, NoReading, Compose, BuildResponse, Split, HandOn, Trend, Bins, ShowMaster, ShowDevice, rulesOf, rulesWithoutReading}
+use Rattle.bench.proofs.Answers.{refused-same, left-out, compose-refused, build-refused, split-refused, split-taken, handed-refused}
 use Rattle.bench.proofs.AtPort.{eight, takenAt, taken-at, other-at, others}
 use Rattle.bench.proofs.Regulars.{regular-turn}
 use Rattle.bench.proofs.History.{stands}
@@ -60,6 +61,13 @@ use Rattle.bench.proofs.Sent.{sent}
 use Rattle.bench.proofs.HandedOn as handing
 use Rattle.bench.proofs.HandedAfter as handingAfter
 use Rattle.bench.proofs.Never.{arising}
+
+-- the first parameter block of examples/sound-port: SPDUs of 6 octets to the FS-Master and of 5 to the FS-Device, with 2 and 1 process octets
+abbrev pub uneven : List ℕ
+uneven = 0x80 ∷ 0x01 ∷ 0x31 ∷ 0x00 ∷ 0x00 ∷ 0x00 ∷ 0x00 ∷ 0x01 ∷ 0x00 ∷ 0x00 ∷ 0x00 ∷ 0x01 ∷ 0x00 ∷ 0x00 ∷ 0x00 ∷ 0x00 ∷ 0x00 ∷ 0x00 ∷ 0x00 ∷ 0x00 ∷ 0x00 ∷ 0x00 ∷ 0x01 ∷ 0x4E ∷ 0xAB ∷ 0x01 ∷ 0x01 ∷ 0x00 ∷ 0x64 ∷ 0x8E ∷ 0x54 ∷ 0x00 ∷ 0x00 ∷ 0x00 ∷ 0x00 ∷ 0xF5 ∷ 0x99 ∷ 0x01 ∷ 0x06 ∷ 0x10 ∷ 0x02 ∷ 0x00 ∷ 0x00 ∷ 0x05 ∷ 0x08 ∷ 0x01 ∷ 0x00 ∷ 0x00 ∷ []
+
+abbrev running : Port
+running = record { setting = record { params = paramsOf uneven; running = true; unused = [] }; live = firstLive 0; bins = [] }
 
 -- an SPDU to and from port 1, with this control or status octet and signature
 abbrev spdu : ℕ → ℕ → ℕ → List ℕ
@@ -243,6 +251,10 @@ pub build-refused-met : responseOut 2 newPort [] (7 ∷ []) ≡ 7 ∷ []
 unfolding buildAnswer newPort
 build-refused-met = build-refused 2 newPort [] (7 ∷ []) refl
 
+pub split-taken-met : let l = spduPart 1 running (replicate 6 0) in (l ++ otherPart 1 running (replicate 6 0) ≡ replicate 6 0) × (length l ≡ 6)
+unfolding splitAnswer
+split-taken-met = split-taken 1 running (replicate 6 0) refl
+
 pub split-refused-met : (spduPart 2 newPort (7 ∷ []) ≡ []) × (otherPart 2 newPort (7 ∷ []) ≡ [])
 unfolding splitAnswer newPort
 split-refused-met = split-refused 2 newPort (7 ∷ []) refl
@@ -418,7 +430,74 @@ is-regular = refl
 pub regular-turn-met : regularOf (begun .setting) (begun .live) (happening.Response 1010 read) ≡ turnOf (begun .setting) (begun .live) (happening.Response 1010 read)
 regular-turn-met = regular-turn (begun .setting) (begun .live) (happening.Response 1010 read) is-regular
 
--- ---- answers where two rules are broken: an SPDU of another length to a port that does not run, and to a number that no port has
-pub first-broken : (answerBy Taken (calls.responseRules 2 (newPort .setting) 9 []) ≡ NotRunning) × (answerBy Taken (calls.requestRules 0 (newPort .setting) 9 []) ≡ NoPort)
-unfolding newPort
-first-broken = (refl, refl)
+-- ---- answers at the edges of the rules, and where two are broken: the first in 01's order
+
+-- octets of a wrong length, of both lengths, and lent values that are not zero
+abbrev one : List ℕ
+one = 1 ∷ []
+
+abbrev five : List ℕ
+five = replicate 5 0
+
+abbrev six : List ℕ
+six = replicate 6 0
+
+abbrev two : List ℕ
+two = replicate 2 0
+
+-- a call to a port, and its answer
+abbrev answers : List (Port × Call × Answer)
+answers =
+    -- 8 before 9, 9 before 10, 7 and 11, 10 before 7
+    (newPort, ReceiveResponse 0 0 one one, NoPort)
+    ∷ (newPort, ReceiveRequest 9 0 one one, NoPort)
+    ∷ (newPort, Clock 9 0 one one, NoPort)
+    ∷ (newPort, WithoutReading 9 Trend, NoPort)
+    ∷ (newPort, ReceiveResponse 1 0 one one, NotRunning)
+    ∷ (newPort, ReceiveRequest 1 0 one one, NotRunning)
+    ∷ (newPort, Clock 1 0 one one, NotRunning)
+    ∷ (newPort, Operator 1 0 false false one, NotRunning)
+    ∷ (newPort, WithoutReading 1 (Compose one one one), NotRunning)
+    ∷ (newPort, WithoutReading 1 (BuildResponse one one), NotRunning)
+    ∷ (newPort, WithoutReading 1 (Split one), NotRunning)
+    ∷ (newPort, WithoutReading 1 (HandOn end.Master Fresh one one one), NotRunning)
+    ∷ (newPort, WithoutReading 1 Trend, NotRunning)
+    ∷ (newPort, WithoutReading 8 Bins, NotRunning)
+    ∷ (running, ReceiveResponse 1 0 five one, SpduLength)
+    ∷ (running, ReceiveRequest 1 0 six one, SpduLength)
+    ∷ (running, WithoutReading 1 (HandOn end.Master Fresh five one one), SpduLength)
+    ∷ (running, WithoutReading 1 (HandOn end.Device Fresh six one one), SpduLength)
+    -- each end has its own length and its own safe values; a clock call lends both
+    ∷ (running, ReceiveResponse 1 0 six safe, Buffer)
+    ∷ (running, ReceiveRequest 1 0 five two, Buffer)
+    ∷ (running, Clock 1 0 safe safe, Buffer)
+    ∷ (running, Clock 1 0 two two, Buffer)
+    ∷ (running, Operator 1 0 false false safe, Buffer)
+    ∷ (running, WithoutReading 1 (HandOn end.Master Safe one safe two), Buffer)
+    ∷ (running, WithoutReading 1 (HandOn end.Device Safe one two two), Buffer)
+    ∷ (running, WithoutReading 1 (HandOn end.Device Safe one safe []), Buffer)
+    ∷ (running, WithoutReading 1 (Compose two [] five), Buffer)
+    ∷ (running, WithoutReading 1 (Compose one one five), Buffer)
+    ∷ (running, WithoutReading 1 (Compose one [] six), Buffer)
+    ∷ (running, WithoutReading 1 (BuildResponse one six), Buffer)
+    ∷ (running, WithoutReading 1 (BuildResponse two five), Buffer)
+    ∷ (running, WithoutReading 1 (Split five), Buffer)
+    ∷ (running, WithoutReading 1 Trend, NoSamples)
+    -- and these are taken
+    ∷ (running, ReceiveResponse 1 0 six two, Taken)
+    ∷ (running, ReceiveRequest 1 0 five safe, Taken)
+    ∷ (running, Clock 1 0 two safe, Taken)
+    ∷ (running, Operator 1 0 false false two, Taken)
+    ∷ (running, WithoutReading 1 (HandOn end.Master Fresh six two two), Taken)
+    ∷ (running, WithoutReading 1 (HandOn end.Device Fresh five safe safe), Taken)
+    ∷ (running, WithoutReading 1 (Compose one [] five), Taken)
+    ∷ (running, WithoutReading 1 (BuildResponse two six), Taken)
+    ∷ (running, WithoutReading 1 (Split six), Taken)
+    ∷ (running, WithoutReading 1 Bins, Taken)
+    ∷ (running, WithoutReading 1 ShowMaster, Taken)
+    ∷ (running, WithoutReading 1 ShowDevice, Taken)
+    ∷ []
+
+pub first-broken : map (λ row. answerBy Taken (rulesOf (row .0) (row .1))) answers ≡ map (λ row. row .2) answers
+unfolding newPort rulesOf rulesWithoutReading
+first-broken = refl

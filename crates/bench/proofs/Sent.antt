@@ -17,11 +17,11 @@ use Rattle.ranges.specs.Fields.{outside, safetyOctets}
 use Rattle.block.specs.declared.Params.{Params}
 use Rattle.scl.specs.declared.Request.{Request}
 use Rattle.scl.specs.declared.Happening.{Happening}
-use Rattle.scl.proofs.Cases.{cond-case, no, and-left, and-right}
+use Rattle.scl.proofs.Cases.{cond-case, and-left, and-right}
 use Rattle.spdu.specs.Signature.{byBits}
 use Rattle.spdu.specs.Places.{processOf}
 use Rattle.spdu.specs.Fields.{responseBy, requestBy}
-use Rattle.spdu.specs.Built.{controlOctet, statusOctet, spduWith, processSent, builtAs, buffersHold}
+use Rattle.spdu.specs.Built.{controlOctet, statusOctet, spduWith, processSent, buffersHold}
 use Rattle.spdu.specs.Image as image
 use Rattle.spdu.specs.RoundTrip.{requestBack, responseBack, zerosBack}
 use Rattle.spdu.proofs.Composed.{spdu-length}
@@ -36,16 +36,8 @@ use Rattle.bench.specs.Ports.{portAt}
 use Rattle.bench.specs.Calls.{callRules}
 use Rattle.bench.specs.Images.{composeAnswer, composed, buildAnswer, responseOut}
 use Rattle.bench.specs.History.{Call, history, since, sinceBlock, octetsOut}
+use Rattle.bench.proofs.Taken.{both-kept}
 use Rattle.bench.proofs.Release.{standing}
-
--- an answer on buffers is TAKEN only where 8 and 9 are kept and the buffers hold
-both-kept : (a : Answer) (hold : Bool) → isTaken (cond (isTaken a) (builtAs hold) a) ≡ true → (isTaken a ≡ true) × (hold ≡ true)
-both-kept a hold = go (isTaken a) refl hold
-  where
-    go : (t : Bool) → isTaken a ≡ t → (hold : Bool) → isTaken (cond t (builtAs hold) a) ≡ true → (t ≡ true) × (hold ≡ true)
-    go true f true e = (refl, refl)
-    go true f false e = no (sym e)
-    go false f hold e = no (sym e ∙ f)
 
 module _ (q : ℕ) (p : Port) where
   abbrev params : Params

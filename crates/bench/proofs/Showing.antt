@@ -13,6 +13,8 @@ use Rattle.ranges.specs.Fields.{outside}
 use Rattle.block.specs.declared.Params.{Params}
 use Rattle.scl.specs.declared.Happening.{Happening}
 use Rattle.scl.proofs.Cases.{cond-both}
+use Rattle.fs_master.specs.History.{masterAfter}
+use Rattle.fs_device.specs.History.{deviceAfter}
 use Rattle.histogram.specs.declared.Histogram.{Histogram}
 use Rattle.histogram.specs.declared.Trend.{Trend}
 use Rattle.histogram.specs.Samples.{binCount, inBin, limit, sumOf, lowestOf, highestOf}
@@ -24,7 +26,7 @@ use Rattle.samples.specs.Samples.{samples}
 use Rattle.bench.specs.declared.Port.{Port}
 use Rattle.bench.specs.declared.Bins.{Bins}
 use Rattle.bench.specs.Ports.{newPort, histogramOf}
-use Rattle.bench.specs.Shown.{seen, trendOf, binsOf}
+use Rattle.bench.specs.Shown.{seen, trendOf, binsOf, masterOf, deviceOf}
 use Rattle.bench.specs.History.{StandsSince}
 
 trend-by : (h : Histogram) → refused Taken (eqb (h .total) 0) NoSamples ≡ trends.trendOf h .answer
@@ -77,3 +79,12 @@ module _ (q : ℕ) (known : outside 1 8 q ≡ false) (p : Port) (at : ℕ) (para
       trends.Shows (sumOf counted) (length counted) (lowestOf counted) (highestOf counted) (trendOf q p .point)
   unfolding trendOf
   trend-shown some = rw shows (trendProofs.trend-of-samples (samples at (params .«FSP_WatchdogTime») past) (s .counted) (s .small) (s .within) some)
+
+  -- both ends as what happened left them
+  pub master-shown : masterOf q p .master ≡ masterAfter at (params .«FSP_WatchdogTime») past
+  unfolding masterOf
+  master-shown = ap (λ (n : Port). n .live .master) shows ∙ s .master
+
+  pub device-shown : deviceOf q p .device ≡ deviceAfter at (params .«FSP_WatchdogTime») past
+  unfolding deviceOf
+  device-shown = ap (λ (n : Port). n .live .device) shows ∙ s .device

@@ -1,5 +1,5 @@
 -- TAKEN is the one answer that refuses nothing; a call whose last rule is on a buffer. Assumes nothing.
-use mathlib.Core.Path.{_≡_, refl}
+use mathlib.Core.Path.{_≡_, refl, sym, _∙_}
 use mathlib.Core.Bool.{Bool, true, false, cond, not, _&&_}
 use Rattle.answer.specs.declared.Answer.{Answer}
 use Rattle.answer.specs.declared.Answer.the-variants.{Taken, BlockSize, BlockId, PortMode, NoScl, FieldRange, Signature, Buffer, NoPort, NotRunning, SpduLength, NoSamples, PortMismatch, Record}
@@ -32,3 +32,12 @@ on-buffers a hold = go (isTaken a) refl hold
     go true e true = taken-is a e
     go true e false = refl
     go false e hold = refl
+
+-- an answer on buffers is TAKEN only where 8 and 9 are kept and the buffers hold
+pub both-kept : (a : Answer) (hold : Bool) → isTaken (cond (isTaken a) (builtAs hold) a) ≡ true → (isTaken a ≡ true) × (hold ≡ true)
+both-kept a hold = go (isTaken a) refl hold
+  where
+    go : (t : Bool) → isTaken a ≡ t → (hold : Bool) → isTaken (cond t (builtAs hold) a) ≡ true → (t ≡ true) × (hold ≡ true)
+    go true f true e = (refl, refl)
+    go true f false e = no (sym e)
+    go false f hold e = no (sym e ∙ f)
