@@ -13,22 +13,24 @@ use Rattle.spdu.specs.Signature.{byBits}
 use Rattle.spdu.specs.Fields.{responseBy}
 use Rattle.signature.specs.Signature as signing
 use Rattle.scl.specs.declared.Happening.{Happening}
-use Rattle.scl.specs.declared.Happening.the-variants.{Response, Clock}
+use Rattle.scl.specs.declared.Happening.the-variants.{Response, Clock, Operator}
 use Rattle.scl.specs.Time.{elapsedOf}
 use Rattle.fs_master.specs.Table38 as table38
 use Rattle.fs_master.specs.Calls as masters
-use Rattle.fs_master.specs.History.{masterAfter, judgedIn, passesBy}
+use Rattle.fs_master.specs.History.{masterAfter, judgedIn, passesBy, previousBy, lastTaken, isOldAfter}
 use Rattle.histogram.specs.Samples.{limit}
 use Rattle.samples.specs.Samples.{oldBy, sentSince, answered, timeOf, isSample, samples}
 use Rattle.bench.specs.declared.Setting.{Setting}
+use Rattle.bench.specs.declared.Bench.{Bench}
 use Rattle.bench.specs.declared.Act.the-variants.{Refused, Accepted, Happens}
 use Rattle.bench.specs.Ports.{newBench, newPort, acceptedPort, portAt, withPort, stepOf, said, silent}
 use Rattle.bench.specs.Calls.{asked, askedByBlock, done, placed}
 use Rattle.bench.specs.History.{portOf, answerOf, after, history, never, since, goesOn, extended, sinceBlock}
+use Rattle.bench.proofs.Arises.{uneven}
 use Rattle.session.specs.declared.Stop.the-variants.{Full, Bad, Cut, End}
 use Rattle.lines.specs.Text.{numeral, refusalLine, summaryLine, portLine}
 use Rattle.session.specs.Text.{lineOfPort, portLines}
-use Rattle.session.specs.Run.{Entry, entry, actBy, callsOf, start, ran, applied, lineOf, closing, printed, fedOf}
+use Rattle.session.specs.Run.{Entry, entry, actBy, callsOf, start, ran, applied, lineOf, closing, printed, fedOf, more}
 use Rattle.session.specs.Blocks.{none, block}
 use Rattle.session.proofs.Blocks.{at-end, at-bad}
 use Rattle.session.proofs.Shown.{line-shown, no-line}
@@ -56,19 +58,27 @@ bad-mark more = at-bad (replicate 9 0 ∷ []) more (block 1 none) refl
 abbrev clock : List ℕ
 clock = 0x53 ∷ 0x4C ∷ 3 ∷ 1 ∷ 0 ∷ 0 ∷ 0 ∷ 0 ∷ 0 ∷ []
 
+-- "r 1 code 9" is told of it where port 1 does not run
 pub each-stop :
     (fedOf start clock 63 .stop ≡ Full)
     × (fedOf start (replicate 9 0) 64 .stop ≡ Bad)
     × (fedOf start (0x53 ∷ []) 64 .stop ≡ Cut)
     × (fedOf start clock 64 .stop ≡ End)
-unfolding fedOf
-each-stop = (refl, refl, refl, refl)
+    × (fedOf start clock 64 .used ≡ 9)
+    × (fedOf start clock 64 .written ≡ 11)
+unfolding fedOf lineOf numeral refusalLine newBench newPort portAt answerOf placed asked done silent
+each-stop = (refl, refl, refl, refl, refl, refl)
+
+-- "A, B and N stop at 2^64 - 1" (R29)
+pub counts-stop : (more 0 ≡ 1) × (more 18446744073709551614 ≡ 18446744073709551615) × (more 18446744073709551615 ≡ 18446744073709551615)
+counts-stop = (refl, refl, refl)
+
+-- "for each running port, ascending"
+pub lines-ascend : (b : Bench) → let l : ℕ → List ℕ = λ n. lineOfPort n (portAt b n) in portLines b 8 ≡ (((((((l 1 ++ l 2) ++ l 3) ++ l 4) ++ l 5) ++ l 6) ++ l 7) ++ l 8)
+unfolding portLines
+lines-ascend b = refl
 
 -- ---- A record's act
-
--- the first parameter block of examples/sound-port
-abbrev good : List ℕ
-good = 0x80 ∷ 0x01 ∷ 0x31 ∷ 0x00 ∷ 0x00 ∷ 0x00 ∷ 0x00 ∷ 0x01 ∷ 0x00 ∷ 0x00 ∷ 0x00 ∷ 0x01 ∷ 0x00 ∷ 0x00 ∷ 0x00 ∷ 0x00 ∷ 0x00 ∷ 0x00 ∷ 0x00 ∷ 0x00 ∷ 0x00 ∷ 0x00 ∷ 0x01 ∷ 0x4E ∷ 0xAB ∷ 0x01 ∷ 0x01 ∷ 0x00 ∷ 0x64 ∷ 0x8E ∷ 0x54 ∷ 0x00 ∷ 0x00 ∷ 0x00 ∷ 0x00 ∷ 0xF5 ∷ 0x99 ∷ 0x01 ∷ 0x06 ∷ 0x10 ∷ 0x02 ∷ 0x00 ∷ 0x00 ∷ 0x05 ∷ 0x08 ∷ 0x01 ∷ 0x00 ∷ 0x00 ∷ []
 
 abbrev off : Setting
 off = record { params = noParams; running = false; unused = [] }
@@ -78,10 +88,13 @@ on = record { params = noParams; running = true; unused = [] }
 
 pub each-act :
     (actBy byBits false off (entry 3 1 0 []) ≡ Refused NotRunning)
-    × (actBy byBits false off (entry 1 1 0 good) ≡ Accepted (paramsOf good))
-    × (actBy byBits false on (entry 3 1 0 []) ≡ Happens (Clock 0))
+    × (actBy byBits false off (entry 1 1 0 uneven) ≡ Accepted (paramsOf uneven))
+    × (actBy byBits false on (entry 3 1 7 []) ≡ Happens (Clock 7))
+    -- "bit 0 setSD_C, bit 1 ChFAck_C"
+    × (actBy byBits false on (entry 4 1 7 (1 ∷ [])) ≡ Happens (Operator 7 true false))
+    × (actBy byBits false on (entry 4 1 7 (2 ∷ [])) ≡ Happens (Operator 7 false true))
 unfolding asked askedByBlock signing.signature signing.octet signing.shiftInAll signing.shiftIn
-each-act = (refl, refl, refl)
+each-act = (refl, refl, refl, refl, refl)
 
 -- ---- A port line: of a block and a response that is a sample of 10 ms, and of a port that had no block
 
@@ -100,7 +113,7 @@ record Since : Type 0 where
   sample : samples 1000 100 past ≡ 10 ∷ []
 
 since-met : Since
-unfolding sinceBlock extended goesOn portOf answerOf after history asked askedByBlock done placed portAt withPort newBench newPort silent signing.signature signing.octet signing.shiftInAll signing.shiftIn acceptedPort stepOf said samples isSample sentSince answered oldBy timeOf masterAfter judgedIn passesBy elapsedOf table38.watchdogRow table38.isOld table38.isTaken table38.acted masters.judged
+unfolding sinceBlock extended goesOn portOf answerOf after history asked askedByBlock done placed portAt withPort newBench newPort silent signing.signature signing.octet signing.shiftInAll signing.shiftIn acceptedPort stepOf said samples isSample sentSince answered oldBy isOldAfter lastTaken previousBy timeOf masterAfter judgedIn passesBy elapsedOf table38.watchdogRow table38.isOld table38.isTaken table38.acted masters.judged
 since-met = record { one = refl; none = refl; sample = refl }
 
 pub line-shown-met : lineOfPort 1 (portAt (ran start records .bench) 1) ≡ portLine 1 100 1 10 10
