@@ -37,7 +37,7 @@ use Rattle.fs_device.specs.History as deviceSpecs
 use Rattle.fs_device.specs.History.{deviceAfter, passedSince, hadErrorOrTimeout}
 use Rattle.histogram.specs.Samples.{binCount, inBin, limit, sumOf, lowestOf, highestOf}
 use Rattle.histogram.specs.Counted as counted
-use Rattle.histogram.specs.Trends.{Shows}
+use Rattle.histogram.specs.Trends.{Shows, zero}
 use Rattle.samples.specs.Tallied.{talliedBy}
 use Rattle.samples.specs.Samples.{oldBy, sentSince, answered, timeOf, isSample, samples}
 use Rattle.bench.specs.declared.Port.{Port}
@@ -54,7 +54,7 @@ use Rattle.bench.proofs.AtPort.{eight, takenAt, taken-at, other-at, oth
 use Rattle.bench.proofs.Regulars.{regular-turn}
 use Rattle.bench.proofs.History.{stands}
 use Rattle.bench.proofs.Release.{standing, passed-first, acknowledged, signals-hold, cycles-first, after-error}
-use Rattle.bench.proofs.Showing.{NoneShown, refused-shown, bins-shown, bins-many, total-shown, frozen-shown, trend-answer, trend-shown}
+use Rattle.bench.proofs.Showing.{NoneShown, refused-shown, refused-trend, bins-shown, bins-many, total-shown, frozen-shown, trend-answer, trend-shown}
 use Rattle.bench.proofs.Silent.{NothingSaid, Says, refused-says}
 use Rattle.bench.proofs.Sent as sends
 use Rattle.bench.proofs.Sent.{sent}
@@ -213,6 +213,10 @@ one-shown = (rw (asked .one-sample) at (bins-shown-met 3 (omega arith)), rw (ask
 pub refused-shown-met : NoneShown (binsOf 9 port)
 unfolding binsOf
 refused-shown-met = refused-shown 9 port refl
+
+pub refused-trend-met : trendOf 9 port .point ≡ record { mean = zero; lowest = zero; highest = zero }
+unfolding trendOf
+refused-trend-met = refused-trend 9 port refl
 
 pub frozen-shown-met : binsOf 1 port .frozen ≡ leb limit (length (samples 1000 100 past))
 frozen-shown-met = frozen-shown 1 refl port 1000 (paramsOf good) past stands-met

@@ -1,18 +1,18 @@
 -- What a running port shows is what 01 says of the samples since its last accepted block. Assumes nothing.
 use Prim.Native.Nat.{ℕ, _<_}
-use mathlib.Core.Path.{_≡_, refl, ap, _∙_}
-use mathlib.Core.Bool.{false, cond}
+use mathlib.Core.Path.{_≡_, refl, sym, ap, _∙_}
+use mathlib.Core.Bool.{Bool, true, false, cond, _&&_}
 use mathlib.Core.List.{List}
 use lib.Dec.{eqb, leb}
 use lib.ListN.{length, getD, take, replicate}
 use Rattle.answer.specs.declared.Answer.{Answer}
 use Rattle.answer.specs.declared.Answer.the-variants.{Taken, NoSamples}
 use Rattle.answer.specs.Answers.{isTaken}
-use Rattle.answer.specs.Rules.{refused}
+use Rattle.answer.specs.Rules.{refused, answerBy}
 use Rattle.ranges.specs.Fields.{outside}
 use Rattle.block.specs.declared.Params.{Params}
 use Rattle.scl.specs.declared.Happening.{Happening}
-use Rattle.scl.proofs.Cases.{cond-both}
+use Rattle.scl.proofs.Cases.{cond-both, no}
 use Rattle.fs_master.specs.History.{masterAfter}
 use Rattle.fs_device.specs.History.{deviceAfter}
 use Rattle.histogram.specs.declared.Histogram.{Histogram}
@@ -20,12 +20,14 @@ use Rattle.histogram.specs.declared.Trend.{Trend}
 use Rattle.histogram.specs.Samples.{binCount, inBin, limit, sumOf, lowestOf, highestOf}
 use Rattle.histogram.specs.Counted.{frozenOf}
 use Rattle.histogram.specs.Trends as trends
+use Rattle.histogram.specs.Trends.{zero}
 use Rattle.histogram.proofs.Counting.{frozen-mark}
 use Rattle.histogram.proofs.Trends as trendProofs
 use Rattle.samples.specs.Samples.{samples}
 use Rattle.bench.specs.declared.Port.{Port}
 use Rattle.bench.specs.declared.Bins.{Bins}
 use Rattle.bench.specs.Ports.{newPort, histogramOf}
+use Rattle.bench.specs.Calls.{callRules}
 use Rattle.bench.specs.Shown.{seen, trendOf, binsOf, masterOf, deviceOf}
 use Rattle.bench.specs.History.{StandsSince}
 
@@ -42,6 +44,20 @@ pub record NoneShown (b : Bins) : Type 0 where
 pub refused-shown : (q : ℕ) (p : Port) → isTaken (binsOf q p .answer) ≡ false → NoneShown (binsOf q p)
 unfolding binsOf seen newPort frozenOf limit
 refused-shown q p e = rw e (record { bins = refl; total = refl; frozen = refl })
+
+-- "On refusal a trend point is three zeros" (R27): where no port runs with the number, and where it has no sample
+pub refused-trend : (q : ℕ) (p : Port) → isTaken (trendOf q p .answer) ≡ false → trendOf q p .point ≡ record { mean = zero; lowest = zero; highest = zero }
+unfolding trendOf seen newPort trends.trendOf
+refused-trend q p = go (isTaken answer) refl (eqb (p .live .totals .total) 0) refl
+  where
+    answer : Answer
+    answer = answerBy Taken (callRules q (p .setting))
+
+    go : (t : Bool) → isTaken answer ≡ t → (none : Bool) → eqb (p .live .totals .total) 0 ≡ none → isTaken (cond (t && none) NoSamples answer) ≡ false
+        → trends.trendOf (histogramOf (cond t p newPort)) .point ≡ record { mean = zero; lowest = zero; highest = zero }
+    go false f none e r = refl
+    go true f true e r = rw e
+    go true f false e r = no (sym f ∙ r)
 
 module _ (q : ℕ) (known : outside 1 8 q ≡ false) (p : Port) (at : ℕ) (params : Params) (past : List Happening) (s : StandsSince p at params past) where
   shows : seen q p ≡ p
