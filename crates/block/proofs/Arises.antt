@@ -1,8 +1,8 @@
--- Every answer to a block arises, and so the premises of `given`, `taken`, `taken-params`, `accepted` and `in-turn` can be met: computed. Assumes
--- nothing.
+-- Every answer to a block arises, and so the premises of `given`, `taken`, `taken-params`, `refused-params`, `accepted` and `in-turn` can be met:
+-- computed. Assumes nothing.
 use mathlib.Core.Path.{_≡_, refl}
 use mathlib.Core.Bool.{true, and-eq-true-iff}
-use mathlib.Core.List.{List, [], _∷_, map}
+use mathlib.Core.List.{List, [], _∷_, _++_, map}
 use Prim.Native.Nat.{ℕ, zero, suc}
 use native.Mathlib.Omega.{arith}
 use borrow.Author.Tests.{ltb-true}
@@ -15,9 +15,9 @@ use Rattle.answer.specs.Rules.{answerBy, First, Kept}
 use Rattle.signature.specs.Signature.{shiftIn, shiftInAll, octet, signature}
 use Rattle.block.specs.Octets.{Octets}
 use Rattle.block.specs.Table22.{blockOf, computed, paramsOf}
-use Rattle.block.specs.Rules.{rulesOn, judged}
+use Rattle.block.specs.Rules.{rulesOn, noParams, judged}
 use Rattle.block.specs.Accepted.{Accepted}
-use Rattle.block.proofs.Answered.{given, taken, taken-params}
+use Rattle.block.proofs.Answered.{given, taken, taken-params, refused-params}
 use Rattle.block.proofs.Bounds.{accepted}
 use Rattle.block.proofs.Whole.{inTurn, in-turn}
 
@@ -46,8 +46,10 @@ answered s port = let a = judged s port .answer in (numberOf a, offsetOf a)
 abbrev rows : List ((ℕ × ℕ) × (ℕ × ℕ))
 rows =
     (answered good 1, (0, 0))
+    ∷ (answered good 0, (8, 0))
     ∷ (answered good 9, (8, 0))
     ∷ (answered (drop 1 good) 1, (1, 0))
+    ∷ (answered (good ++ 0 ∷ []) 1, (1, 0))
     ∷ (answered (set good 0 0) 1, (2, 0))
     ∷ (answered (set good 2 5) 1, (3, 0))
     ∷ (answered (set good 2 51) 1, (4, 0))
@@ -67,6 +69,7 @@ rows =
     ∷ (answered (set good 43 6) 1, (5, 43))
     ∷ (answered (set good 44 9) 1, (5, 44))
     ∷ (answered good 2, (12, 0))
+    ∷ (answered good 8, (12, 0))
     ∷ (answered (set good 14 1) 1, (6, 23))
     ∷ (answered (set good 39 7) 1, (6, 29))
     ∷ (answered (set good 31 1) 1, (6, 35))
@@ -87,6 +90,9 @@ taken-met = taken good 1 .0 refl
 pub taken-params-met : judged good 1 .params ≡ paramsOf good
 unfolding signature octet shiftInAll shiftIn
 taken-params-met = taken-params good 1 refl
+
+pub refused-params-met : judged good 9 .params ≡ noParams
+refused-params-met = refused-params good 9 refl
 
 pub accepted-met : Accepted 1 (judged good 1 .params)
 unfolding signature octet shiftInAll shiftIn

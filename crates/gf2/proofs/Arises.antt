@@ -1,11 +1,11 @@
--- The premises of the theorems on flips can be met, with both generators: computed. Assumes nothing.
+-- The premises of the theorems on flips can be met, with both generators, and bits stand in their order: computed. Assumes nothing.
 use mathlib.Core.Path.{_≡_, refl, sym, _∙_}
-use mathlib.Core.Bool.{Bool}
-use mathlib.Core.List.{List, [], _++_}
+use mathlib.Core.Bool.{Bool, true, false}
+use mathlib.Core.List.{List, [], _∷_, _++_}
 use Prim.Native.Nat.{ℕ, _%_}
 use Rattle.gf2.specs.Polynomial.{Multiple, ones}
 use Rattle.gf2.specs.Register.{SameLengths, Passes}
-use Rattle.gf2.specs.Bits.{bits}
+use Rattle.gf2.specs.Bits.{bits, octetBits}
 use Rattle.gf2.specs.Generators.{generator16, generator32}
 use Rattle.gf2.proofs.Bits.{bits-length}
 use Rattle.gf2.proofs.Product.{burst-by-ones, multiple-even, multiple-burst}
@@ -49,3 +49,7 @@ odd-met = (odd-detected (lengths 16 generator16 0x4EAA) even16 refl, odd-detecte
 -- of the premises of `multiple-burst` all are met by no flips alone
 pub none-met : ones (bits 16 0) ≡ 0
 none-met = multiple-burst (bits 16 generator16) ends16 0 (burst-by-ones 0 16 (bits 16 0) refl refl) (record { quotient = []; exact = refl })
+
+-- 01: "most significant bit first, not reflected"; the octets of a number, the most significant first, have its bits
+pub bit-order : (bits 4 0x4 ≡ false ∷ true ∷ false ∷ false ∷ []) × (octetBits (0x4E ∷ 0xAB ∷ []) ≡ bits 16 0x4EAB)
+bit-order = (refl, refl)

@@ -6,6 +6,7 @@ use Prim.Native.Nat.{ℕ, zero, suc, _+_, _<_, min, max}
 use native.Mathlib.Omega.{arith}
 use borrow.Author.Tests.{le-leb}
 use lib.Dec.{eqb, eqb·zero-suc}
+use lib.Ieee.Exact.{HasValue}
 use lib.ListN.{length, getD, replicate, length-replicate, getD-replicate}
 use lib.Seq.{take-all}
 use Rattle.answer.specs.declared.Answer.the-variants.{Taken, NoSamples}
@@ -54,6 +55,11 @@ trend-met = trend-of-samples three all-counted-met (omega arith) within-met (ome
 pub few : (frozenOf ofThree ≡ false) × ((trendOf ofThree .answer ≡ Taken) × (trendOf clearedOf .answer ≡ NoSamples))
 unfolding limit
 few = (frozen-mark three all-counted-met, (answered three all-counted-met, answered [] (cleared-holds 99)))
+
+-- R27: on that refusal the trend point is three zeros
+pub none-shown : HasValue (trendOf clearedOf .point .mean) false 0 1 × HasValue (trendOf clearedOf .point .lowest) false 0 1 × HasValue (trendOf clearedOf .point .highest) false 0 1
+unfolding trendOf
+none-shown = ((refl, refl), (refl, refl), (refl, refl))
 
 -- ---- n samples of 0 ms; `limit` stays closed, as nothing counts up to it
 abbrev ofZeros : ℕ → Histogram

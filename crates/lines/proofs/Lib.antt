@@ -1,2 +1,3 @@
 pub mod Numeral
 pub mod Written
+pub mod Arises

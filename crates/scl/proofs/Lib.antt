@@ -1,3 +1,4 @@
 pub mod Time
 pub mod Cases
 pub mod Watchdog
+pub mod Arises

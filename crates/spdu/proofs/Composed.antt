@@ -27,7 +27,7 @@ spdu-length sign mode process port control =
     sizes true x = refl
     sizes false x = refl
 
-sent-length : (b : Bool) (process : List ℕ) → length (processSent b process) ≡ length process
+pub sent-length : (b : Bool) (process : List ℕ) → length (processSent b process) ≡ length process
 sent-length true process = length-replicate (length process) 0
 sent-length false process = refl
 
@@ -55,6 +55,10 @@ module _ (sign : ℕ → List ℕ → ℕ) (p : Params) (mCount : ℕ) (setSD ch
   built =
       ap (λ (b : Bool). cond b spdu (take o image))
       (ap₂ _&&_ (eq-eqb (length process + safetyOctets (p .«FSP_ProtMode»)) o (parts .0)) (eq-eqb (length (take o image)) o (sym lent)))
+
+  -- R3: the SPDU stands first in the image, and the other data behind it
+  pub spdu-first : composed sign p mCount setSD chFAckReq process other image ≡ requestBuilt sign p mCount setSD chFAckReq process (take o image) ++ other
+  spdu-first = ap (λ (b : Bool). cond b (spdu ++ other) image) holds ∙ ap (λ (l : List ℕ). l ++ other) (sym built)
 
   built-length : length spdu ≡ o
   built-length = spdu-length sign (p .«FSP_ProtMode») (processSent setSD process) (p .«FSP_Port») (controlOctet mCount setSD chFAckReq) ∙ omega (arith, sent-length setSD process, parts .0)

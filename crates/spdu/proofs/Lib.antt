@@ -12,4 +12,5 @@ pub mod Demand3
 pub mod Arrived
 pub mod Needed
 pub mod Back
+pub mod Sent
 pub mod Arises
