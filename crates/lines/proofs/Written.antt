@@ -56,6 +56,10 @@ from-zeros m {b} {t} w = (from-front w ∙ rw (drop-replicate (length t) m), ome
 counts : (t z : List ℕ) → Counts (length t) (t ++ z)
 counts t z = (simp length-append (omega arith), rw take-append-seam)
 
+-- what a line's length counts is its text
+pub line-text : (t : List ℕ) → (take (lineOf t .length) (lineOf t .octets) ≡ t) × (take (portLineOf t .length) (portLineOf t .octets) ≡ t)
+line-text t = (rw take-append-seam, rw take-append-seam)
+
 pub line-of : {b t : List ℕ} {r : ℕ} → Written (replicate lineRoom 0) 0 t r b → (_≡_ {A = Line} (record { octets = b; length = r }) (lineOf t)) × Counts r b
 line-of {b} {t} w = let f = from-zeros lineRoom w in (simp (f .0, f .1), simp (f .0, f .1) (counts t _))
 

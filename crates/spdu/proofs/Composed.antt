@@ -28,8 +28,8 @@ spdu-length sign mode process port control =
     sizes false x = refl
 
 pub sent-length : (b : Bool) (process : List ℕ) → length (processSent b process) ≡ length process
-sent-length true process = length-replicate (length process) 0
-sent-length false process = refl
+sent-length true process = omega (arith, length-replicate {A = ℕ} (length process) 0)
+sent-length false process = omega (arith, length-replicate {A = ℕ} (length process) 0)
 
 module _ (sign : ℕ → List ℕ → ℕ) (p : Params) (mCount : ℕ) (setSD chFAckReq : Bool) (process other image : List ℕ) (holds : composerHolds p (length process) (length other) (length image) ≡ true) where
   abbrev o : ℕ
