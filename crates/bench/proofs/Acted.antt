@@ -30,13 +30,14 @@ use Rattle.bench.specs.declared.Act.the-variants.{Refused, Accepted, Hap
 use Rattle.bench.specs.Ports as ports
 use Rattle.bench.specs.Ports.{newPort, noPort, placeOf, portAt, withPort, acceptedPort, stored, said, stepOf, silent}
 use Rattle.bench.specs.Calls as calls
+use Rattle.bench.specs.Storing as storing
 use Rattle.bench.specs.Columns.{portsOf}
 use Rattle.bench.proofs.Beside.{Eight, set-columns, getD-columns}
 
 -- ---- An act at the port in place k
 
 abbrev pub actPorts : List Port → ℕ → ℕ → Act → List Port
-actPorts l k at a = calls.actedPorts l k (getD l k noPort) at a
+actPorts l k at a = storing.actedPorts l k (getD l k noPort) at a
 
 abbrev pub answerIn : Act → Answer
 answerIn (Refused a) = a
@@ -84,7 +85,7 @@ module _ (b : Bench) (port at : ℕ) (act : Setting → Act) (nowhere : outside 
   abbrev inPlace : Port
   inPlace = getD (b .ports) (placeOf port .index) noPort
 
-  pub act-after : calls.acted b (placeOf port .index) inPlace at (act (inPlace .setting)) ≡ calls.placed b port (calls.done (portAt b port) at (act (portAt b port .setting)))
+  pub act-after : storing.acted b (placeOf port .index) inPlace at (act (inPlace .setting)) ≡ calls.placed b port (calls.done (portAt b port) at (act (portAt b port .setting)))
   unfolding portAt withPort calls.placed
   act-after = placed-by (b .ports) (port - 1) at (λ p. act (p .setting)) (outside 1 8 port) (λ h p. nowhere h (p .setting))
 
@@ -97,9 +98,9 @@ module _ (b : Bench) (port at : ℕ) (act : Setting → Act) (nowhere : outside 
 
 -- ---- A number that no port has is refused, whatever stands in the place that is looked at; and only a block has a block
 
-pub no-block : (a : Answer) (h : Happening) → calls.hasBlock (calls.asked a h) ≡ false
+pub no-block : (a : Answer) (h : Happening) → storing.hasBlock (calls.asked a h) ≡ false
 unfolding calls.asked
-no-block a h = cond-case (λ (t : Act). calls.hasBlock t ≡ false) (isTaken a) (λ _. refl) (λ _. refl)
+no-block a h = cond-case (λ (t : Act). storing.hasBlock t ≡ false) (isTaken a) (λ _. refl) (λ _. refl)
 
 pub nowhere-response : (sign : ℕ → List ℕ → ℕ) (o : Bool) → o ≡ true → (s : Setting) (at : ℕ) (spdu : List ℕ) (holds : Bool) → calls.responseAct sign o s at spdu holds ≡ Refused answers.NoPort
 unfolding calls.asked

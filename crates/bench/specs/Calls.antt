@@ -3,7 +3,7 @@ use Prim.Native.Nat.{ℕ}
 use mathlib.Core.Bool.{Bool, true, false, cond, not, _&&_}
 use mathlib.Core.List.{List, [], _∷_, _++_}
 use lib.Dec.{eqb}
-use lib.ListN.{length, set}
+use lib.ListN.{length}
 use Rattle.answer.specs.declared.Answer.{Answer}
 use Rattle.answer.specs.declared.Answer.the-variants.{Taken, Buffer, NoPort, NotRunning, SpduLength}
 use Rattle.answer.specs.Answers.{isTaken}
@@ -91,21 +91,6 @@ unfoldable pub done : Port → ℕ → Act → PortAfter
 done p at (Refused a) = record { port = p; reply = silent a }
 done p at (Accepted params) = record { port = acceptedPort p params at; reply = silent Taken }
 done p at (Happens h) = stepOf p h
-
--- The same in place k of a bench, for the port p that stands there: a refusal stores nothing.
-abbrev pub actedPorts : List Port → ℕ → Port → ℕ → Act → List Port
-actedPorts l k p at (Refused a) = l
-actedPorts l k p at (Accepted params) = set l k (acceptedPort p params at)
-actedPorts l k p at (Happens h) = set l k (stepOf p h .port)
-
-abbrev pub acted : Bench → ℕ → Port → ℕ → Act → BenchAfter
-acted b k p at a = record { bench = record { ports = actedPorts (b .ports) k p at a }; reply = done p at a .reply }
-
--- parameters are accepted
-abbrev pub hasBlock : Act → Bool
-hasBlock (Refused a) = false
-hasBlock (Accepted params) = true
-hasBlock (Happens h) = false
 
 abbrev pub parametersAt : ℕ → Port → ℕ → List ℕ → PortAfter
 parametersAt port p at octets = done p at (parametersAct port octets)

@@ -1,4 +1,5 @@
--- A bench whose ports stand in three columns, as whoever steps them many times keeps them. Assumes nothing.
+-- Method: a bench whose ports stand in three columns, as whoever steps them many times keeps them. What is meant is the bench (Ports.antt).
+-- Assumes nothing.
 use Prim.Native.Nat.{ℕ, _<_}
 use mathlib.Core.Bool.{Bool}
 use mathlib.Core.List.{List, [], _∷_}

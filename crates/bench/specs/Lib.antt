@@ -2,6 +2,7 @@ pub mod Ports
 pub mod Regular
 pub mod Columns
 pub mod Calls
+pub mod Storing
 pub mod Images
 pub mod Handing
 pub mod Shown

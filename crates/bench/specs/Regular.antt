@@ -1,4 +1,4 @@
--- The turn that nearly every record of a session takes: a response in time, by T4, that is a sample, at a port whose FS-Device stands. It is said here
+-- Method: the turn that nearly every record of a session takes: a response in time, by T4, that is a sample, at a port whose FS-Device stands. It is said here
 -- as it is worked out; proofs/Regulars.antt has that it is `turnOf`. Assumes nothing.
 use Prim.Native.Nat.{ℕ}
 use mathlib.Core.Bool.{Bool, true, false, _&&_}

@@ -6,6 +6,7 @@ ghost use lib.ListN.{set};
 ghost use Rattle.bench.specs.declared.Act.the-variants as acts;
 ghost use Rattle.bench.specs.Ports as ports;
 ghost use Rattle.bench.specs.Calls as calls;
+ghost use Rattle.bench.specs.Storing as storing;
 use crate::Act;
 use crate::Bench;
 use crate::BenchAfter;
@@ -60,7 +61,7 @@ fn refused(b: Bench, answer: Answer) -> BenchAfter
 // An accepted block, at the port p in place i.
 fn set_up(b: Bench, i: usize, p: Port, at: u32, params: Params) -> BenchAfter
     requires { ⌜ i < 8 ⌝ }
-    ensures { λ r. ⌜ r ≡ calls.acted b i p at (acts.Accepted params) ⌝ }
+    ensures { λ r. ⌜ r ≡ storing.acted b i p at (acts.Accepted params) ⌝ }
 {
     BenchAfter {
         bench: with_port(b, i, accepted_port(p, params, at)),
@@ -71,7 +72,7 @@ fn set_up(b: Bench, i: usize, p: Port, at: u32, params: Params) -> BenchAfter
 // A happening at the port p in place i.
 fn stepped(b: Bench, i: usize, p: Port, happening: Happening) -> BenchAfter
     requires { ⌜ i < 8 ⌝ }
-    ensures { λ r. ⌜ ((at : ℕ) → (r ≡ calls.acted b i p at (acts.Happens happening))) ⌝ }
+    ensures { λ r. ⌜ ((at : ℕ) → (r ≡ storing.acted b i p at (acts.Happens happening))) ⌝ }
 {
     let turned = turn(p.setting, p.live, happening);
     BenchAfter {
@@ -83,7 +84,7 @@ fn stepped(b: Bench, i: usize, p: Port, happening: Happening) -> BenchAfter
 // An act at the port p in place i, with the reading of its call.
 fn acted(b: Bench, i: usize, p: Port, at: u32, act: Act) -> BenchAfter
     requires { ⌜ i < 8 ⌝ }
-    ensures { λ r. ⌜ r ≡ calls.acted b i p at act ⌝ }
+    ensures { λ r. ⌜ r ≡ storing.acted b i p at act ⌝ }
 {
     match act {
         Act::Refused(answer) => refused(b, answer),
@@ -96,8 +97,8 @@ fn acted(b: Bench, i: usize, p: Port, at: u32, act: Act) -> BenchAfter
 // these calls; with the block's arm it would be called, and the bench copied on the way in and out.
 fn happened(b: Bench, i: usize, p: Port, act: Act) -> BenchAfter
     requires { ⌜ i < 8 ⌝ }
-    requires { ⌜ calls.hasBlock act ≡ false ⌝ }
-    ensures { λ r. ⌜ ((at : ℕ) → (r ≡ calls.acted b i p at act)) ⌝ }
+    requires { ⌜ storing.hasBlock act ≡ false ⌝ }
+    ensures { λ r. ⌜ ((at : ℕ) → (r ≡ storing.acted b i p at act)) ⌝ }
 {
     match act {
         Act::Refused(answer) => refused(b, answer),

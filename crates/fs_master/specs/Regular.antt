@@ -1,4 +1,4 @@
--- The call that nearly every response makes: in time, by T4, with nothing wrong. What it does is said by Table38.antt and Calls.antt; this says
+-- Method: the call that nearly every response makes: in time, by T4, with nothing wrong. What it does is said by Table38.antt and Calls.antt; this says
 -- when a call is one. Assumes nothing.
 use Prim.Native.Nat.{ℕ}
 use mathlib.Core.Bool.{Bool, not, _&&_, _||_}

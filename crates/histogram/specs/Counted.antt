@@ -1,4 +1,5 @@
--- Each call on a histogram, for every histogram: also for one that no list of samples gives, whose counts wrap. Assumes nothing.
+-- Method: each call on a histogram, for every histogram, also for one that no list of samples gives, whose counts wrap. What is meant is in Samples.antt.
+-- Assumes nothing.
 use mathlib.Core.Bool.{Bool, true, false, cond}
 use mathlib.Core.List.{List, foldl}
 use Prim.Native.Nat.{ℕ, _+_, _%_, _^_, min, max}

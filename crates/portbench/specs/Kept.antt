@@ -1,4 +1,4 @@
--- 01, "The session program": what `portbench` makes of the octets that it reads, block by block, and what it keeps of them. Assumes nothing.
+-- Method, but for `Ran`: what `portbench` makes of the octets that it reads, block by block, and what it keeps of them. Assumes nothing.
 use Prim.Native.Nat.{ℕ, suc, _+_, _<_}
 use mathlib.Core.Path.{_≡_}
 use mathlib.Core.Bool.{false}

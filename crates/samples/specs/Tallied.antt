@@ -1,4 +1,4 @@
--- One happening at a port's FS-Master and its histogram: the method. What it comes to is in Samples.antt. Assumes nothing.
+-- Method: one happening at a port's FS-Master and its histogram. What is meant is in Samples.antt. Assumes nothing.
 use Prim.Native.Nat.{ℕ}
 use mathlib.Core.Bool.{Bool, false, cond, not, _&&_}
 use lib.Dec.{leb}

@@ -1,4 +1,4 @@
--- 000 Annex D, D.3.3 and D.3.5: the same by a lookup table, n bits of data at a time. 000 has n = 8, an octet. Assumes nothing.
+-- Method, 000 Annex D, D.3.3 and D.3.5: the same by a lookup table, n bits of data at a time. 000 has n = 8, an octet. Assumes nothing.
 use mathlib.Core.Path.{_≡_}
 use mathlib.Core.List.{List, [], _∷_}
 use Prim.Native.Nat.{ℕ, _*_, _/_, _%_, _^_, _-_, _<_}

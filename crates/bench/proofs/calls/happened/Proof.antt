@@ -1,7 +1,8 @@
 -- `bench::calls::happened` meets its contract. Assumes nothing.
 use mathlib.Core.Path.{sym, _∙_, ap}
 use Rattle.scl.proofs.Cases.{no}
-use Rattle.bench.specs.Calls.{done, hasBlock}
+use Rattle.bench.specs.Calls.{done}
+use Rattle.bench.specs.Storing.{hasBlock}
 use borrow.Author.Needs.{needs}
 use Rattle.bench.proofs.calls.happened.Statement.{statement}
 use Rattle.bench.proofs.calls.happened.Tie as tie

@@ -10,7 +10,8 @@ use Rattle.spdu.proofs.Tables.{right-method}
 use Rattle.bench.specs.declared.Setting.{Setting}
 use Rattle.bench.specs.declared.Act.{Act}
 use Rattle.bench.specs.Ports.{noPort}
-use Rattle.bench.specs.Calls.{requestAct, safeOutHold, acted}
+use Rattle.bench.specs.Calls.{requestAct, safeOutHold}
+use Rattle.bench.specs.Storing.{acted}
 use Rattle.bench.proofs.Acted.{act-after, no-block, nowhere-request}
 use borrow.Author.Needs.{needs}
 use Rattle.bench.proofs.calls.receive_request.Statement.{statement}

@@ -10,7 +10,8 @@ use Rattle.spdu.proofs.Tables.{right-method}
 use Rattle.bench.specs.declared.Setting.{Setting}
 use Rattle.bench.specs.declared.Act.{Act}
 use Rattle.bench.specs.Ports.{noPort}
-use Rattle.bench.specs.Calls.{responseAct, safeInHold, acted}
+use Rattle.bench.specs.Calls.{responseAct, safeInHold}
+use Rattle.bench.specs.Storing.{acted}
 use Rattle.bench.proofs.Acted.{act-after, no-block, nowhere-response}
 use borrow.Author.Needs.{needs}
 use Rattle.bench.proofs.calls.receive_response.Statement.{statement}

@@ -1,0 +1,1 @@
+// What is claimed: specs/. It has no function.
