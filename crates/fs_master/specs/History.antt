@@ -181,7 +181,7 @@ isRequested Asked = true
 
 -- ---- The previous SPDU
 
--- "the last one taken to a check": whether there was one, the DCount_i it carried and the MCount that stood (R14)
+-- the last one taken to a check (R14): whether there was one, the DCount_i it carried and the MCount that stood
 pub record Previous : Type 0 where
   pub previous : Bool
   pub carried : ℕ

@@ -8,7 +8,7 @@ use Rattle.scl.specs.declared.Mark.the-variants.{Fresh, Safe, GoesOn, No
 use Rattle.scl.specs.declared.Check.{Check}
 use Rattle.scl.specs.declared.Check.the-variants as check
 
--- 01: "Every happening carries a clock reading in ms."
+-- 01: "Every happening, and every parameter block, carries a clock reading in ms."
 abbrev pub readingOf : Happening → ℕ
 readingOf (happening.Response at response) = at
 readingOf (happening.Request at request) = at

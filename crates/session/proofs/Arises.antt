@@ -69,7 +69,7 @@ pub each-stop :
 unfolding fedOf lineOf numeral refusalLine newBench newPort portAt answerOf placed asked done silent
 each-stop = (refl, refl, refl, refl, refl, refl)
 
--- "A, B and N stop at 2^64 - 1" (R29)
+-- A, B and N stop at 2^64 - 1 (R29)
 pub counts-stop : (more 0 ≡ 1) × (more 18446744073709551614 ≡ 18446744073709551615) × (more 18446744073709551615 ≡ 18446744073709551615)
 counts-stop = (refl, refl, refl)
 

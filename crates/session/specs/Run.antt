@@ -102,7 +102,7 @@ callsOf past (e ∷ rs) = callsOf (callOf (history past) e ∷ past) rs
 
 -- ---- A run
 
--- "A, B and N stop at 2^64 - 1" (R29)
+-- A, B and N stop at 2^64 - 1 (R29)
 abbrev pub more : ℕ → ℕ
 more n = min (n + 1) (2 ^ 64 - 1)
 
