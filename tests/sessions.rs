@@ -125,24 +125,34 @@ fn show_all(feeder: &mut Feeder) {
     }
 }
 
+/// The lines that show a session.
+fn shown(session: &[u8]) -> String {
+    let mut lines = Vec::new();
+    show(session, &mut lines).expect("octets in memory");
+    String::from_utf8(lines).expect("lines of text")
+}
+
 fn compare_lines(comparisons: &mut Comparisons, session: &[u8]) {
-    let lines = show(session);
+    let lines = shown(session);
     let inputs = || format!("{}\n{lines}", octets_text(session));
     comparisons.compare(Ok(session.to_vec()), make(&lines), inputs);
     comparisons.compare(codes(session), shown_codes(&lines), inputs);
 }
 
-/// The codes of the refusals that are printed.
+/// The refusals that are printed, each as `N code C`.
 fn codes(session: &[u8]) -> Vec<String> {
-    let text = printed(session);
-    let words = text.lines().filter(|line| line.starts_with("r "));
-    words.filter_map(|line| line.split("code ").nth(1)).map(str::to_string).collect()
+    printed(session)
+        .lines()
+        .filter_map(|line| line.strip_prefix("r "))
+        .map(str::to_string)
+        .collect()
 }
 
-/// The codes in the comments of a shown session.
+/// The refusals in the comments of a shown session.
 fn shown_codes(lines: &str) -> Vec<String> {
-    let comments = lines.lines().filter_map(|line| line.split("# code ").nth(1));
-    comments.filter_map(|comment| comment.split(',').next()).map(str::to_string).collect()
+    let comments = lines.lines().filter_map(|line| line.split("# r ").nth(1));
+    let refused = comments.filter(|comment| comment.contains(" code "));
+    refused.filter_map(|comment| comment.split(',').next()).map(str::to_string).collect()
 }
 
 fn feed_all(feeder: &mut Feeder) {
