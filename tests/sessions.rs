@@ -7,9 +7,11 @@ mod as_model;
 mod comparisons;
 mod fed_sessions;
 mod good_blocks;
+#[path = "../bindings/rust/library.rs"]
 mod library;
 #[path = "../tools/lines/mod.rs"]
 mod lines;
+#[path = "../model/mod.rs"]
 mod model;
 mod random;
 mod random_sessions;

@@ -8,7 +8,7 @@
 
 #[path = "lines/mod.rs"]
 mod lines;
-#[path = "../tests/model/mod.rs"]
+#[path = "../model/mod.rs"]
 mod model;
 
 use lines::stream::Failure;
