@@ -7,7 +7,9 @@ mod bench_pair;
 mod bench_runs;
 mod comparisons;
 mod good_blocks;
+#[path = "../bindings/rust/library.rs"]
 mod library;
+#[path = "../model/mod.rs"]
 mod model;
 mod random;
 mod unread;

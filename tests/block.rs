@@ -4,7 +4,9 @@
 mod as_model;
 mod comparisons;
 mod good_blocks;
+#[path = "../bindings/rust/library.rs"]
 mod library;
+#[path = "../model/mod.rs"]
 mod model;
 mod random;
 

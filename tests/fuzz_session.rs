@@ -5,6 +5,7 @@
 mod good_blocks;
 #[path = "../tools/lines/mod.rs"]
 mod lines;
+#[path = "../model/mod.rs"]
 mod model;
 mod random;
 mod random_sessions;

@@ -3,7 +3,9 @@
 
 mod as_model;
 mod comparisons;
+#[path = "../bindings/rust/library.rs"]
 mod library;
+#[path = "../model/mod.rs"]
 mod model;
 mod random;
 

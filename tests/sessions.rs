@@ -7,9 +7,11 @@ mod as_model;
 mod comparisons;
 mod fed_sessions;
 mod good_blocks;
+#[path = "../bindings/rust/library.rs"]
 mod library;
 #[path = "../tools/lines/mod.rs"]
 mod lines;
+#[path = "../model/mod.rs"]
 mod model;
 mod random;
 mod random_sessions;
@@ -23,6 +25,7 @@ use model::session::printed;
 use model::signature::{signature, signature_by_numbers, LONG, SHORT};
 use random::Random;
 use random_sessions::{damage, long_session, move_clock, record, session};
+use std::io::{ErrorKind, Read};
 use std::path::PathBuf;
 
 /// Sessions that are fed as they are, with another start of the clock, and damaged so many times. Their records are fewer than the first
@@ -112,6 +115,7 @@ fn show_all(feeder: &mut Feeder) {
     for _ in 0..SHOWN {
         let mut session = session(random, SHOWN_RECORDS);
         compare_lines(comparisons, &session);
+        compare_pieces(comparisons, &session);
         for _ in 0..SHOWN_DAMAGES {
             damage(random, &mut session);
             compare_lines(comparisons, &session);
@@ -125,24 +129,65 @@ fn show_all(feeder: &mut Feeder) {
     }
 }
 
+/// The lines that show a session.
+fn shown(session: &[u8]) -> String {
+    let mut lines = Vec::new();
+    show(session, &mut lines).expect("octets in memory");
+    String::from_utf8(lines).expect("lines of text")
+}
+
+/// An input that brings a random number of octets at a time, and is interrupted now and then.
+struct Pieces<'a> {
+    rest: &'a [u8],
+    random: Random,
+}
+
+impl Read for Pieces<'_> {
+    fn read(&mut self, buffer: &mut [u8]) -> std::io::Result<usize> {
+        let count = match self.random.below(8) {
+            0 => return Err(ErrorKind::Interrupted.into()),
+            1 => buffer.len(),
+            _ => buffer.len().min(1 + self.random.below(300)),
+        };
+        self.rest.read(&mut buffer[..count])
+    }
+}
+
+/// However the octets come, the lines are the same.
+fn compare_pieces(comparisons: &mut Comparisons, session: &[u8]) {
+    let mut lines = Vec::new();
+    let pieces = Pieces { rest: session, random: Random::from_seed(session.len() as u64) };
+    show(pieces, &mut lines).expect("octets in memory");
+    comparisons.compare(shown(session).as_bytes(), &lines[..], || octets_text(session));
+}
+
 fn compare_lines(comparisons: &mut Comparisons, session: &[u8]) {
-    let lines = show(session);
+    let lines = shown(session);
     let inputs = || format!("{}\n{lines}", octets_text(session));
     comparisons.compare(Ok(session.to_vec()), make(&lines), inputs);
     comparisons.compare(codes(session), shown_codes(&lines), inputs);
+    comparisons.compare(None, lines.lines().find(|line| lacks_reason(line)), inputs);
 }
 
-/// The codes of the refusals that are printed.
+/// Safe values for which the comment has no reason, or a fault of no record.
+fn lacks_reason(line: &str) -> bool {
+    line.ends_with("safe values: ") || line.contains(" in record 0")
+}
+
+/// The refusals that are printed, each as `N code C`.
 fn codes(session: &[u8]) -> Vec<String> {
-    let text = printed(session);
-    let words = text.lines().filter(|line| line.starts_with("r "));
-    words.filter_map(|line| line.split("code ").nth(1)).map(str::to_string).collect()
+    printed(session)
+        .lines()
+        .filter_map(|line| line.strip_prefix("r "))
+        .map(str::to_string)
+        .collect()
 }
 
-/// The codes in the comments of a shown session.
+/// The refusals in the comments of a shown session.
 fn shown_codes(lines: &str) -> Vec<String> {
-    let comments = lines.lines().filter_map(|line| line.split("# code ").nth(1));
-    comments.filter_map(|comment| comment.split(',').next()).map(str::to_string).collect()
+    let comments = lines.lines().filter_map(|line| line.split("# r ").nth(1));
+    let refused = comments.filter(|comment| comment.contains(" code "));
+    refused.filter_map(|comment| comment.split(',').next()).map(str::to_string).collect()
 }
 
 fn feed_all(feeder: &mut Feeder) {
@@ -168,6 +213,8 @@ fn feed_all(feeder: &mut Feeder) {
     for _ in 0..VERY_LONG {
         let session = long_session(&mut feeder.random);
         feeder.feed(&session, 0);
+        compare_lines(&mut feeder.comparisons, &session);
+        compare_pieces(&mut feeder.comparisons, &session);
     }
     for place in 0..FED_CUT {
         let records = feeder.random.below(FED_CUT_RECORDS);

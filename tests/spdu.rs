@@ -3,7 +3,9 @@
 
 mod comparisons;
 mod flips;
+#[path = "../bindings/rust/library.rs"]
 mod library;
+#[path = "../model/mod.rs"]
 mod model;
 mod random;
 

@@ -4,9 +4,9 @@
 
 #[path = "../good_blocks.rs"]
 mod good_blocks;
-#[path = "../library.rs"]
+#[path = "../../bindings/rust/library.rs"]
 mod library;
-#[path = "../model/mod.rs"]
+#[path = "../../model/mod.rs"]
 mod model;
 #[path = "../random.rs"]
 mod random;

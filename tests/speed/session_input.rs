@@ -4,7 +4,7 @@
 
 #[path = "../../tools/lines/mod.rs"]
 mod lines;
-#[path = "../model/mod.rs"]
+#[path = "../../model/mod.rs"]
 mod model;
 #[path = "../random.rs"]
 mod random;

@@ -1,7 +1,7 @@
 // The time of the library's signatures as a ratio to that of the usual C loop, on the same input in
 // one run.
 
-#[path = "../library.rs"]
+#[path = "../../bindings/rust/library.rs"]
 mod library;
 #[path = "../random.rs"]
 mod random;

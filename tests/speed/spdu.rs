@@ -2,7 +2,7 @@
 // same input in one run. The tables are lent to the library; it takes the parameters by value, and the copy is in its time.
 // Argument: the seed of the random inputs, or none.
 
-#[path = "../library.rs"]
+#[path = "../../bindings/rust/library.rs"]
 mod library;
 #[path = "../random.rs"]
 mod random;

@@ -2,6 +2,8 @@
 // port, which takes each SPDU that the FS-Master sends and answers it.
 
 use crate::model::bench::BenchModel;
+use crate::model::histogram::Earlier;
+use crate::model::machines::MasterModel;
 use crate::model::session::{call, first_record, safe_values, Record, PARAMETERS, SPDU};
 use crate::model::spdu::Direction;
 
@@ -18,13 +20,15 @@ pub struct Ends {
 }
 
 /// What a record did.
-#[derive(Clone, Debug, PartialEq, Eq)]
+#[derive(Clone, Debug, PartialEq)]
 pub struct Told {
     pub number: u8,
     pub offset: usize,
     pub rows: Vec<usize>,
     pub sample: Option<u16>,
     pub releases: bool,
+    /// The FS-Master's end afterwards.
+    pub master: MasterModel,
 }
 
 impl Ends {
@@ -65,7 +69,7 @@ impl Ends {
         if record.kind == SPDU {
             self.spdus[usize::from(port)] = record.octets.clone();
         }
-        let (rows, samples) = (self.bench.rows, self.bench.samples(port).len());
+        let rows = self.bench.rows;
         let reply = call(&mut self.bench, record);
         if reply.number == 0 {
             if record.kind == PARAMETERS {
@@ -74,13 +78,24 @@ impl Ends {
             self.send_request(port, at);
         }
         let taken = |&row: &usize| self.bench.rows[row] > rows[row];
+        let rows = ROWS.into_iter().filter(taken).collect();
         Told {
             number: reply.number,
             offset: reply.offset,
-            rows: ROWS.into_iter().filter(taken).collect(),
-            sample: self.bench.samples(port).get(samples).copied(),
+            rows,
+            sample: self.take_sample(port),
             releases: reply.releases[0],
+            master: self.bench.master(port).1,
         }
+    }
+
+    /// The sample of the last record, which the bench then forgets: its list would grow with the session.
+    fn take_sample(&mut self, port: u8) -> Option<u16> {
+        let sample = self.bench.samples(port).last().copied();
+        if sample.is_some() {
+            self.bench.put_earlier(port, Earlier::NOTHING);
+        }
+        sample
     }
 
     /// The FS-Master's SPDU reaches the FS-Device in the call that set it. One sent before is ignored there, its count being old.

@@ -1,21 +1,4 @@
-// Lines of text into a session. One line is one record, or raw octets; a line that begins with a blank goes on with the line above it;
-// `#` begins a comment.
-//
-//     block port P WHEN [mode N] [watchdog MS] [in N] [out N] [ELEMENT NUMBER].. [wrong SIGNATURE].. [size N]
-//     block port P WHEN octets HEX
-//     response port P WHEN [process HEX] [DCount_i N] [FSP_Port N] [SDset] [DCommErr] [DTimeout] [CHANGE]..
-//     response port P WHEN repeated|zeros|octets HEX [CHANGE]..
-//     spdu port P WHEN process HEX FSP_Port N DCount_i N [SDset] [DCommErr] [DTimeout] [reserved N] signature HEX
-//     spdu port P WHEN octets HEX
-//     clock port P WHEN
-//     operator port P WHEN [setSD_C] [ChFAck_C]
-//     record [mark HEX] kind K port P WHEN [length N] octets HEX
-//     octets HEX..
-//
-// WHEN is `at MS`, or `after MS ms`: after the port's last record, or after 0. A CHANGE is `damaged bit N`, counted from 0 in the order
-// of division, or `length N`. `mode` is FSP_ProtMode, `in` and `out` are process octets; ELEMENT is a name of 000 Table 22. A `response` is what the port's
-// FS-Device answers at that reading to the SPDU that the FS-Master sent last; where DCount_i, FSP_Port, SDset, DCommErr or DTimeout
-// change it, it is signed anew. An `spdu` is put together from its parts as they stand.
+// Lines of text into a session: examples/README.md has their form.
 
 use super::ends::Ends;
 use super::fields;

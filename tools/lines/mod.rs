@@ -6,4 +6,6 @@ pub mod ends;
 pub mod fields;
 pub mod make;
 pub mod show;
+pub mod stream;
+pub mod why;
 pub mod words;

@@ -3,12 +3,13 @@
 
 use super::ends::{Ends, Told};
 use super::fields::{ELEMENTS, LINES};
+use super::stream::{Failure, Stream, MOST};
+use super::why::{arrived, Arrived, Histories};
 use super::words::octets_word;
 use crate::model::block::LENGTH;
-use crate::model::session::{
-    parts, Parts, Record, CLOCK, HEAD, MARK, OPERATOR, PARAMETERS, RECORD, SPDU,
-};
-use crate::model::spdu::{Direction, Fields, Format};
+use crate::model::session::{Record, CLOCK, HEAD, MARK, OPERATOR, PARAMETERS, RECORD, SPDU};
+use crate::model::spdu::{Direction, Format};
+use std::io::{Read, Write};
 
 /// 01, "Answer numbers".
 const NAMES: [&str; 14] = [
@@ -30,17 +31,28 @@ const NAMES: [&str; 14] = [
 
 const OCTETS_IN_A_LINE: usize = 32;
 
-pub fn show(session: &[u8]) -> String {
-    let Parts { records, rest } = parts(session);
+pub fn show(input: impl Read, output: &mut impl Write) -> Result<(), Failure> {
+    let mut stream = Stream::new(input);
     let mut ends = Ends::new();
-    let mut text = String::new();
-    for record in &records {
-        let [first, more] = lines(&ends, record);
-        let fault = Fault::of(&ends, record);
-        let told = ends.take(record);
-        text += &format!("{first}  # {}{more}\n", comment(record, &told, &fault));
+    let mut histories = Histories::new();
+    // As the N that `portbench` prints.
+    let mut number = 0;
+    while let Some(record) = stream.record()? {
+        number += 1;
+        let [first, more] = lines(&ends, &record);
+        let spdu = Arrived::of(&ends, &record);
+        let told = ends.take(&record);
+        let comment = match told.number {
+            0 => {
+                histories.take(number, &record, &spdu, &told);
+                let why = histories.why(number, record.port, &told.master);
+                taken(&record, &told, &why)
+            }
+            _ => refused(&told),
+        };
+        writeln!(output, "{first}  # r {number} {comment}{more}").map_err(Failure::Write)?;
     }
-    text + &rest_lines(rest)
+    show_rest(&mut stream, number + 1, output)
 }
 
 /// The record's line, and the lines that go on with it.
@@ -104,65 +116,46 @@ fn spdu_parts(format: &Format, spdu: &[u8]) -> String {
     )
 }
 
-/// What an SPDU says of itself, to name the fault that a row took it for.
-struct Fault {
-    fields: Option<Fields>,
-    /// The count that the FS-Master awaits, before the watchdog is judged.
-    awaited: u8,
+/// A refusal as `portbench` prints it, with the answer's name and the element that it speaks of.
+fn refused(told: &Told) -> String {
+    let element = ELEMENTS.iter().find(|element| told.offset != 0 && element.offset == told.offset);
+    let place = element.map_or(String::new(), |element| format!(" {}", element.name));
+    format!("code {}, {}{place}", told.number, NAMES[usize::from(told.number)])
 }
 
-impl Fault {
-    fn of(ends: &Ends, record: &Record) -> Fault {
-        let format = ends.bench().format(record.port, Direction::Response);
-        let fields =
-            format.filter(|_| record.kind == SPDU).map(|format| format.read(&record.octets));
-        let awaited = 7 - ends.bench().m_count(record.port);
-        Fault { fields, awaited }
-    }
-
-    /// In the order of the checks (000 Table 38), then what the FS-Device reports.
-    fn name(&self, rows: &[usize]) -> Option<&'static str> {
-        let fields = self.fields.as_ref().filter(|_| rows.contains(&7) || rows.contains(&12))?;
-        // T8 and T14 send 0.
-        let awaited = if rows[0] == 8 || rows[0] == 14 { 7 } else { self.awaited };
-        let faults = [
-            (!fields.signature_holds, "wrong signature"),
-            (!fields.port_holds, "wrong port number"),
-            (fields.count != awaited, "wrong count"),
-            (fields.marks[1], "DCommErr"),
-            (fields.marks[2], "DTimeout"),
-        ];
-        faults.into_iter().find(|(holds, _)| *holds).map(|(_, name)| name)
-    }
-}
-
-fn comment(record: &Record, told: &Told, fault: &Fault) -> String {
-    if told.number != 0 {
-        let element =
-            ELEMENTS.iter().find(|element| told.offset != 0 && element.offset == told.offset);
-        let place = element.map_or(String::new(), |element| format!(" {}", element.name));
-        return format!("code {}, {}{place}", told.number, NAMES[usize::from(told.number)]);
-    }
+fn taken(record: &Record, told: &Told, why: &str) -> String {
     let mut notes: Vec<String> = told.rows.iter().map(|row| format!("T{row}")).collect();
-    let arrived = told.rows.iter().any(|row| ![8, 14].contains(row));
     match record.kind {
         PARAMETERS => notes.push("taken".to_string()),
-        SPDU if !arrived => notes.push("ignored".to_string()),
+        SPDU if !arrived(&told.rows) => notes.push("ignored".to_string()),
         _ => (),
     }
-    notes.extend(fault.name(&told.rows).map(str::to_string));
     notes.extend(told.sample.map(|time| format!("sample {time} ms")));
-    notes.push(if told.releases { "released" } else { "safe values" }.to_string());
+    notes.push(if told.releases { "released".to_string() } else { format!("safe values: {why}") });
     notes.join(", ")
 }
 
-fn rest_lines(rest: &[u8]) -> String {
+/// What follows the last whole record: its first octets are the record of this number, which answers 13.
+fn show_rest<R: Read>(
+    stream: &mut Stream<R>,
+    number: u64,
+    output: &mut impl Write,
+) -> Result<(), Failure> {
+    let rest = stream.ahead(MOST)?;
     if rest.is_empty() {
-        return String::new();
+        return Ok(());
     }
-    let lines = rest.chunks(OCTETS_IN_A_LINE).map(octets_word);
-    let lines: String = lines.map(|word| format!("octets {word}\n")).collect();
-    format!("# code {RECORD}, RECORD: {}; nothing is read from here on\n{lines}", malformed(rest))
+    let wrong = malformed(rest);
+    let comment =
+        format!("# r {number} code {RECORD}, RECORD: {wrong}; nothing is read from here on");
+    writeln!(output, "{comment}").map_err(Failure::Write)?;
+    loop {
+        let octets = stream.octets(OCTETS_IN_A_LINE)?;
+        if octets.is_empty() {
+            return Ok(());
+        }
+        writeln!(output, "octets {}", octets_word(octets)).map_err(Failure::Write)?;
+    }
 }
 
 /// Why the octets do not begin with a whole, well-formed record.

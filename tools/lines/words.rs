@@ -82,8 +82,12 @@ fn hexadecimal(digits: &str) -> bool {
 }
 
 pub fn octets_word(octets: &[u8]) -> String {
+    const DIGITS: &[u8; 16] = b"0123456789ABCDEF";
     match octets {
         [] => "-".to_string(),
-        _ => octets.iter().map(|octet| format!("{octet:02X}")).collect(),
+        _ => {
+            let digits = octets.iter().flat_map(|octet| [octet >> 4, octet & 15]);
+            digits.map(|digit| char::from(DIGITS[usize::from(digit)])).collect()
+        }
     }
 }

@@ -1,5 +1,5 @@
 // The boundary: the C functions of the static library `export`, each behind a safe function.
-// Each test program uses only some of them.
+// A program may use only some of them.
 #![allow(dead_code)]
 
 /// The response histogram of a port.

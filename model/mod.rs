@@ -1,5 +1,5 @@
 // The independent model: what the specification says, by other methods than the library's.
-// Each test program uses only some of it.
+// A program may use only some of it.
 #![allow(dead_code)]
 
 pub mod bench;
