@@ -48,7 +48,7 @@ use Rattle.bench.specs.Images.{composeAnswer, composed, buildAnswer, res
 use Rattle.bench.specs.declared.End.the-variants as end
 use Rattle.bench.specs.Handing.{handedTo, handedOut}
 use Rattle.bench.specs.Shown.{trendOf, binsOf}
-use Rattle.bench.specs.History.{Call, SetParameters, ReceiveResponse, ReceiveRequest, Clock, portOf, answerOf, after, history, addressing, goesOn, extended, since, sinceBlock, StandsSince, Stands, Arising, blockIn, OctetsIn, no-call, one-more, octetsOut, Operator, WithoutReading, NoReading, Compose, BuildResponse, Split, HandOn, Trend, Bins, ShowMaster, ShowDevice, rulesOf, rulesWithoutReading}
+use Rattle.bench.specs.History.{Call, SetParameters, ReceiveResponse, ReceiveRequest, Clock, portOf, answerOf, after, history, addressing, goesOn, extended, since, sinceBlock, StandsSince, Stands, Arising, blockIn, OctetsIn, no-call, one-more, octetsOut, Operator, WithoutReading, Compose, BuildResponse, Split, HandOn, Trend, Bins, ShowMaster, ShowDevice, rulesOf, rulesWithoutReading}
 use Rattle.bench.proofs.Answers.{refused-same, left-out, compose-refused, build-refused, split-refused, split-taken, handed-refused}
 use Rattle.bench.proofs.AtPort.{eight, takenAt, taken-at, other-at, others}
 use Rattle.bench.proofs.Regulars.{regular-turn}

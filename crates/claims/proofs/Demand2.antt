@@ -1,6 +1,6 @@
 -- Demand 2, from the theorems of the machines and the bench. Assumes nothing.
 use Prim.Native.Nat.{ℕ, _≤_, _<_, _^_}
-use mathlib.Core.Path.{_≡_, refl}
+use mathlib.Core.Path.{_≡_}
 use mathlib.Core.Bool.{true, false}
 use mathlib.Core.List.{List, _∷_}
 use Rattle.ranges.specs.Fields.{outside}

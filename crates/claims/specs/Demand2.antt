@@ -9,7 +9,7 @@ use Prim.Native.Nat.{ℕ, _<_, _≤_, _^_}
 use mathlib.Core.Path.{_≡_}
 use mathlib.Core.Bool.{Bool, true, false, cond}
 use mathlib.Core.List.{List, [], _∷_}
-use lib.Dec.{eqb, leb}
+use lib.Dec.{leb}
 use lib.ListN.{length, take, getD, replicate}
 use Rattle.answer.specs.declared.Answer.the-variants.{Taken}
 use Rattle.answer.specs.Answers.{isTaken}
@@ -20,7 +20,7 @@ use Rattle.spdu.specs.Signature.{byBits}
 use Rattle.spdu.specs.Places.{processOf}
 use Rattle.spdu.specs.Fields.{responseBy, requestBy}
 use Rattle.spdu.specs.Image as image
-use Rattle.spdu.specs.RoundTrip.{requestBack, responseBack, zerosBack}
+use Rattle.spdu.specs.RoundTrip.{requestBack, responseBack}
 use Rattle.scl.specs.Time.{elapsedOf}
 use Rattle.scl.specs.Happenings.{readingOf}
 use Rattle.scl.specs.declared.Happening.{Happening}

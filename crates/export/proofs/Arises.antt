@@ -1,10 +1,9 @@
 -- What is told outside, of results whose fields all differ: each stands in the field of its name, with 01's and 000's numbers. Computed. Assumes nothing.
-use Prim.Native.Nat.{ℕ}
 use mathlib.Core.Path.{_≡_, refl}
-use mathlib.Core.Bool.{Bool, true, false}
-use mathlib.Core.List.{List, [], _∷_, map}
+use mathlib.Core.Bool.{true, false}
+use mathlib.Core.List.{[], _∷_, map}
 use lib.ListN.{replicate}
-use Rattle.answer.specs.declared.Answer.the-variants.{Taken, FieldRange, Signature, Buffer, NotRunning, NoSamples}
+use Rattle.answer.specs.declared.Answer.the-variants.{FieldRange, Signature, Buffer, NotRunning, NoSamples}
 use Rattle.block.specs.declared.Params.{Params}
 use Rattle.scl.specs.declared.Mark.the-variants.{Fresh, GoesOn, Safe}
 use Rattle.scl.specs.declared.Check.the-variants as check

@@ -1,7 +1,7 @@
 -- 01, "The histogram and the trend": which responses since an accepted block are samples, and of what time. The block has this reading and this W; in
 -- every list of happenings the latest stands first. Assumes nothing.
 use Prim.Native.Nat.{ℕ}
-use mathlib.Core.Bool.{Bool, true, false, cond, not, _&&_, _||_}
+use mathlib.Core.Bool.{Bool, false, cond, not, _&&_, _||_}
 use mathlib.Core.List.{List, [], _∷_, _++_}
 use lib.Dec.{eqb, leb}
 use Rattle.scl.specs.Time.{elapsedOf}
