@@ -34,7 +34,7 @@ use Rattle.fs_master.specs.History.{masterAfter, judgedIn, passesBy, lastTaken,
 use Rattle.fs_device.specs.Table40 as table40
 use Rattle.fs_device.specs.Calls as devices
 use Rattle.fs_device.specs.History as deviceSpecs
-use Rattle.fs_device.specs.History.{deviceAfter, passedSince, hadErrorOrTimeout}
+use Rattle.fs_device.specs.History.{deviceAfter, passedSince, hadError, hadTimeout, hadErrorOrTimeout}
 use Rattle.histogram.specs.Samples.{binCount, inBin, limit, sumOf, lowestOf, highestOf}
 use Rattle.histogram.specs.Counted as counted
 use Rattle.histogram.specs.Trends.{Shows, zero}
@@ -144,7 +144,7 @@ record Asked : Type 0 where
   has-responded : port .live .device .responded ≡ true
 
 asked : Asked
-unfolding hadErrorOrTimeout deviceAfter samples isSample timeOf sentSince answered oldBy isOldAfter lastTaken previousBy masterAfter judgedIn passesBy sinceBlock extended goesOn portOf answerOf after history calls.placed calls.asked calls.askedByBlock calls.done portAt withPort newBench newPort noPort acceptedPort turnOf stored said stepOf talliedBy silent signing.signature signing.octet signing.shiftInAll signing.shiftIn elapsedOf table38.watchdogRow table38.isOld table38.isTaken table38.checked table38.from8 table38.arrivalRow table38.taken table38.sampleFrom table38.t4 table38.acted masters.judged masters.quiet masters.arrived masters.received masters.watched masters.stepOf table40.watchdogRow table40.isTaken table40.checked table40.arrivalRow table40.taken table40.t22 table40.t25 table40.t28 table40.t29 table40.acted devices.judged devices.quiet devices.arrived devices.received devices.watched devices.stepOf counted.frozenOf counted.withSample counted.countedOf counted.totalledOf
+unfolding hadErrorOrTimeout hadError hadTimeout deviceAfter samples isSample timeOf sentSince answered oldBy isOldAfter lastTaken previousBy masterAfter judgedIn passesBy sinceBlock extended goesOn portOf answerOf after history calls.placed calls.asked calls.askedByBlock calls.done portAt withPort newBench newPort noPort acceptedPort turnOf stored said stepOf talliedBy silent signing.signature signing.octet signing.shiftInAll signing.shiftIn elapsedOf table38.watchdogRow table38.isOld table38.isTaken table38.checked table38.from8 table38.arrivalRow table38.taken table38.sampleFrom table38.t4 table38.acted masters.judged masters.quiet masters.arrived masters.received masters.watched masters.stepOf table40.watchdogRow table40.isTaken table40.checked table40.arrivalRow table40.taken table40.t22 table40.t25 table40.t28 table40.t29 table40.acted devices.judged devices.quiet devices.arrived devices.received devices.watched devices.stepOf counted.frozenOf counted.withSample counted.countedOf counted.totalledOf
 asked = record {
   block = refl;
   runs = refl;

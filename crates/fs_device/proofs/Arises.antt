@@ -208,7 +208,7 @@ pub record Met : Type 0 where
   pub timeout-over : (hadTimeout block 100 (pastBefore 23) ≡ true) × (cyclesSinceTimeout block 100 (pastBefore 23) ≤ 1)
 
 pub met : Met
-unfolding worked upTo deviceAfter hasTaken hadErrorOrTimeout cyclesSinceError cyclesSinceTimeout stands stepOf watched received arrived quiet judged acted watchdogRow isTaken checked arrivalRow taken t22 t25 t28 t29 t30t31 elapsedOf
+unfolding worked upTo deviceAfter hasTaken hadErrorOrTimeout hadError hadTimeout cyclesSinceError cyclesSinceTimeout stands stepOf watched received arrived quiet judged acted watchdogRow isTaken checked arrivalRow taken t22 t25 t28 t29 t30t31 elapsedOf
 met = record {
   fresh-only = release.fresh-only (deviceBefore 6) 100 releasing refl;
   fresh-if =

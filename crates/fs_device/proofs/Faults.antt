@@ -1,18 +1,19 @@
 -- What the FS-Device makes of counts, of damaged SPDUs and of time. Assumes nothing.
 use Prim.Native.Nat.{ℕ, _≤_}
-use mathlib.Core.Path.{_≡_, refl, sym}
+use mathlib.Core.Path.{_≡_, refl, sym, ap, _∙_}
 use mathlib.Core.Bool.{Bool, true, false, cond, not, _&&_, _||_}
 use mathlib.Core.List.{List, [], _∷_}
 use mathlib.Core.Logic.{_⊎_, inl, inr}
 use lib.Dec.{eqb}
 use borrow.Author.Tests.{eqb-true, le-ltb, not-true}
 use Rattle.scl.specs.Time.{elapsedOf, expiredOf}
-use Rattle.scl.specs.Happenings.{readingOf, checkOf, isFailure}
+use Rattle.scl.specs.Happenings.{readingOf, isFailure}
 use Rattle.scl.specs.declared.Happening.{Happening}
 use Rattle.scl.specs.declared.Happening.the-variants as happening
 use Rattle.scl.specs.declared.Check.{Check}
 use Rattle.scl.specs.declared.Mark.the-variants.{Safe}
 use Rattle.scl.proofs.Cases.{cond-case, no}
+use Rattle.scl.proofs.Checks.{failed}
 use Rattle.scl.specs.declared.Request.{Request}
 use Rattle.fs_device.specs.declared.Device.{Device}
 use Rattle.fs_device.specs.declared.Outcome.{Outcome}
@@ -191,11 +192,6 @@ taken-unless : (d : Device) (q : Request) → waits d ≡ true → q .«all_zero
 unfolding isTaken
 taken-unless d q h z o = taken-there (q .«all_zero») (isOld d q) (waits d) h z o
 
-fails : (s p c : Bool) → (s && p && c) ≡ false → isFailure (checkOf s p c) ≡ true
-fails true true c e = simp e
-fails true false c e = refl
-fails false p c e = refl
-
 -- not released, and safe values handed on
 abbrev Safely : Outcome → Type 0
 Safely o = (o .mark ≡ Safe) × (o .device .released ≡ false)
@@ -210,7 +206,7 @@ arrived-safe d r at q failed e = rw e (simp (error-safe d at q), error-safe d at
 
 received-safe : (d : Device) (r : Row) (at : ℕ) (q : Request) → isTaken d q ≡ true → sound d q ≡ false → Safely (received d r at q)
 unfolding received checked
-received-safe d r at q t s = rw t (arrived-safe d r at q (checked d q) (fails (q .«signature_holds») (q .«port_holds») (countHolds d q) s))
+received-safe d r at q t s = rw t (arrived-safe d r at q (checked d q) (failed (q .«signature_holds») (q .«port_holds») (countHolds d q) ∙ ap not s))
 
 -- A damaged, misaddressed or miscounted SPDU leads to safe values in that call, unless it is all zero or old;
 pub damaged-safe : (d : Device) (w at : ℕ) (q : Request) → waits d ≡ true → q .«all_zero» ≡ false → isOld (judged d w at) q ≡ false → sound (judged d w at) q ≡ false → Safely (stepOf d w (happening.Request at q))

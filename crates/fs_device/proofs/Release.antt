@@ -12,6 +12,7 @@ use Rattle.scl.specs.declared.Happening.the-variants as happening
 use Rattle.scl.specs.declared.Mark.{Mark}
 use Rattle.scl.specs.declared.Mark.the-variants.{Fresh, GoesOn, Safe}
 use Rattle.scl.proofs.Cases.{cond-case, no, and-left, and-right}
+use Rattle.scl.proofs.Checks.{all-hold}
 use Rattle.scl.specs.declared.Request.{Request}
 use Rattle.fs_device.specs.declared.Device.{Device}
 use Rattle.fs_device.specs.declared.Outcome.{Outcome}
@@ -39,12 +40,6 @@ fresh-released : (b : Bool) → markOf true b ≡ Fresh → b ≡ true
 fresh-released true e = refl
 fresh-released false e = safe e
 
-holds : (s p c : Bool) → isFailure (checkOf s p c) ≡ false → (s ≡ true) × ((p ≡ true) × (c ≡ true))
-holds true true true e = (refl, (refl, refl))
-holds true true false e = no e
-holds true false c e = no e
-holds false p c e = no e
-
 -- what is asked of an SPDU that leads to a release: T22, no error, no cycles left, setSD 0
 abbrev Asked : Device → Request → Bool → Row → Type 0
 Asked d q CommErr r = ((r ≡ T22) × ((CommErr ≡ false) × ((d .SDcycles ≡ 0) × (q .setSD ≡ false)))) × (eqb (d .state) 26 ≡ false)
@@ -69,7 +64,7 @@ unfolding arrived checked
 answered-fresh d r at q t e =
     let CommErr = isFailure (checkOf (q .«signature_holds») (q .«port_holds») (countHolds d q)) in
     let a : Asked d q CommErr (arrivalRow d CommErr) = row-asks d q at CommErr (fresh-released (acted (taken d q) (arrivalRow d CommErr) at (q .setSD) CommErr .released) e) in
-    let h = holds (q .«signature_holds») (q .«port_holds») (countHolds d q) (a .0 .1 .0) in
+    let h = all-hold (q .«signature_holds») (q .«port_holds») (countHolds d q) (a .0 .1 .0) in
     (record { taken = t; regular = a .1; signature = h .0; port = h .1 .0; count = h .1 .1; cycles = a .0 .1 .1 .0; not-set = a .0 .1 .1 .1 }, a .0 .0)
 
 received-fresh : (d : Device) (r : Row) (at : ℕ) (q : Request) → received d r at q .mark ≡ Fresh → Releases d q × (received d r at q .arrival ≡ T22)
@@ -169,7 +164,7 @@ module _ (at w : ℕ) where
       (record { cycles = omega arith; fault = λ _. refl; release = λ e. no (sym e); set = λ e. no e })
 
   counts : (past : List Happening) → Counts (deviceAfter at w past) (passedSince at w past) (hadErrorOrTimeout at w past)
-  unfolding deviceAfter passedSince hadErrorOrTimeout
+  unfolding deviceAfter passedSince hadErrorOrTimeout hadError hadTimeout
   counts [] = record { cycles = omega arith; fault = λ e. e; release = λ e. no (sym e); set = λ e. no e }
   counts (h ∷ past) =
       let d = deviceAfter at w past in

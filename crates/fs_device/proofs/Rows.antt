@@ -1,15 +1,16 @@
 -- The watchdog's rows, and the rows of an SPDU that is taken, one by one; and a call by what happened in it. Assumes nothing.
 use Prim.Native.Nat.{ℕ}
-use mathlib.Core.Path.{_≡_, refl, sym}
+use mathlib.Core.Path.{_≡_, refl, sym, subst₂}
 use mathlib.Core.Bool.{Bool, true, false, cond, not, _&&_, _||_}
 use lib.Dec.{eqb}
 use borrow.Author.Tests.{eqb-true, not-false}
 use Rattle.scl.specs.Time.{expiredOf}
-use Rattle.scl.specs.Happenings.{checkOf, isFailure, readingOf}
+use Rattle.scl.specs.Happenings.{isFailure, readingOf}
 use Rattle.scl.specs.declared.Happening.{Happening}
 use Rattle.scl.specs.declared.Happening.the-variants as happening
 use Rattle.scl.specs.declared.Request.{Request}
 use Rattle.scl.proofs.Cases.{cond-case, and-left, no}
+use Rattle.scl.proofs.Checks.{failed, passed}
 use Rattle.fs_device.specs.declared.Device.{Device}
 use Rattle.fs_device.specs.declared.Outcome.{Outcome}
 use Rattle.fs_device.specs.declared.Row.{Row}
@@ -62,13 +63,6 @@ module _ (d : Device) (at : ℕ) (q : Request) (P : Row → Bool → Device → 
       (λ none. p28 s (eqb-true (d .SDcycles) 0 (not-false (eqb (d .SDcycles) 0) none))))
       p22
 
--- one of the checks fails exactly where not all hold
-fails-alike : (P : Bool → Bool → Type 0) (s p c : Bool) → let CommErr = isFailure (checkOf s p c) in P CommErr (not CommErr) → P (not (s && p && c)) (s && p && c)
-fails-alike P true true true x = x
-fails-alike P true true false x = x
-fails-alike P true false c x = x
-fails-alike P false p c x = x
-
 -- A call by what happened in it: no SPDU was taken, or one with an error, or one that passed.
 module _ (d : Device) (w : ℕ) (P : Bool → Bool → Outcome → Type 0) where
   pub step-case : (h : Happening) → let j = judged d w (readingOf h) in let r = watchdogRow d w (readingOf h) in
@@ -86,7 +80,9 @@ module _ (d : Device) (w : ℕ) (P : Bool → Bool → Outcome → Type 0) where
 
       go : (t : Bool) → P (t && not (sound j q)) (t && sound j q) (cond t (arrived j r at q (checked j q)) (quiet j r (isOld j q)))
       go true =
-          fails-alike (λ e p. P e p (arrived j r at q (checked j q))) (q .«signature_holds») (q .«port_holds») (countHolds j q) (some at q)
+          let s = q .«signature_holds» in
+          let p = q .«port_holds» in
+          subst₂ (λ (e z : Bool). P e z (arrived j r at q (checked j q))) (failed s p (countHolds j q)) (passed s p (countHolds j q)) (some at q)
       go false = none (isOld j q)
   step-case (happening.Response at f) none some = none false
   step-case (happening.Clock at) none some = none false

@@ -102,7 +102,6 @@ hadTimeout at w [] = false
 hadTimeout at w (h ∷ past) = timesOut (deviceAfter at w past) w (readingOf h) || hadTimeout at w past
 
 unfoldable pub hadErrorOrTimeout : ℕ → ℕ → List Happening → Bool
-unfolding hadError hadTimeout
 hadErrorOrTimeout at w past = hadError at w past || hadTimeout at w past
 
 -- how many SPDUs were taken since the last with an error, and since the last timeout: a cycle each. One taken in the very call of a timeout

@@ -7,6 +7,7 @@ use Rattle.scl.specs.declared.Happening.the-variants as happening
 use Rattle.scl.specs.declared.Mark.the-variants.{Safe}
 use Rattle.scl.specs.declared.Response.{Response}
 use Rattle.scl.proofs.Cases.{no}
+use Rattle.scl.proofs.Checks.{failed}
 use Rattle.fs_master.specs.declared.Master.{Master}
 use Rattle.fs_master.specs.declared.Outcome.{Outcome}
 use Rattle.fs_master.specs.declared.Row.{Row}
@@ -14,12 +15,11 @@ use Rattle.fs_master.specs.Table38.{watchdogRow, isExpected, isTaken, ha
 use Rattle.fs_master.specs.Calls.{judged, quiet, arrived, received, stepOf}
 use Rattle.fs_master.specs.History.{isFaulty}
 use Rattle.fs_master.proofs.Rows.{row-case}
-use Rattle.fs_master.proofs.Samples.{fails-as}
 
 -- FAULTS of a response, as the table's guard has them
 pub faulty-is : (m : Master) (f : Response) → isFaulty m f ≡ hasFaults (isFailure (checked m f)) f
 unfolding checked
-faulty-is m f = rw (fails-as (f .«signature_holds») (f .«port_holds») (isExpected m f))
+faulty-is m f = rw (failed (f .«signature_holds») (f .«port_holds») (isExpected m f))
 
 -- not released, and safe values handed on
 abbrev Safely : Outcome → Type 0

@@ -13,6 +13,7 @@ use Rattle.scl.specs.declared.Happening.the-variants as happening
 use Rattle.scl.specs.declared.Mark.{Mark}
 use Rattle.scl.specs.declared.Mark.the-variants.{Fresh, GoesOn, Safe}
 use Rattle.scl.proofs.Cases.{cond-case, no, or-left, or-right, or-second}
+use Rattle.scl.proofs.Checks.{all-hold}
 use Rattle.scl.specs.declared.Response.{Response}
 use Rattle.fs_master.specs.declared.Master.{Master}
 use Rattle.fs_master.specs.declared.Outcome.{Outcome}
@@ -36,12 +37,6 @@ quiet-not m r old {A} =
 fresh-released : (b : Bool) → markOf true b ≡ Fresh → b ≡ true
 fresh-released true e = refl
 fresh-released false e = safe e
-
-holds : (s p c : Bool) → isFailure (checkOf s p c) ≡ false → (s ≡ true) × ((p ≡ true) × (c ≡ true))
-holds true true true e = (refl, (refl, refl))
-holds true true false e = no e
-holds true false c e = no e
-holds false p c e = no e
 
 -- what is asked of a response that leads to a release
 record Asked (m : Master) (f : Response) (faults : Bool) (r : Row) : Type 0 where
@@ -67,7 +62,7 @@ answered-fresh m r at f t e =
     let MCommErr = isFailure (checkOf (f .«signature_holds») (f .«port_holds») (isExpected m f)) in
     let faults = hasFaults MCommErr f in
     let a : Asked m f faults (arrivalRow m faults) = row-asks m f at faults (fresh-released (acted (taken m f) (arrivalRow m faults) at (f .SDset) .released) e) in
-    let h = holds (f .«signature_holds») (f .«port_holds») (isExpected m f) (or-left MCommErr (f .DCommErr) (or-left (MCommErr || f .DCommErr) (f .DTimeout) (a .none))) in (
+    let h = all-hold (f .«signature_holds») (f .«port_holds») (isExpected m f) (or-left MCommErr (f .DCommErr) (or-left (MCommErr || f .DCommErr) (f .DTimeout) (a .none))) in (
       record {
         taken = t;
         signature = h .0;

@@ -1,14 +1,15 @@
 -- What a sample rests on, call by call: the start that is kept, the response that passes, and the previous SPDU. Assumes nothing.
 use Prim.Native.Nat.{ℕ}
 use mathlib.Core.Path.{_≡_, refl, sym}
-use mathlib.Core.Bool.{Bool, true, false, cond, not, _&&_}
+use mathlib.Core.Bool.{Bool, true, false, cond, _&&_}
 use lib.Dec.{eqb}
 use borrow.Author.Tests.{eq-eqb}
 use Rattle.scl.specs.Counts.{inverted}
-use Rattle.scl.specs.Happenings.{readingOf, checkOf, isFailure}
+use Rattle.scl.specs.Happenings.{readingOf, isFailure}
 use Rattle.scl.specs.declared.Happening.{Happening}
 use Rattle.scl.specs.declared.Happening.the-variants as happening
 use Rattle.scl.proofs.Cases.{cond-case}
+use Rattle.scl.proofs.Checks.{passed}
 use Rattle.scl.specs.declared.Response.{Response}
 use Rattle.fs_master.specs.declared.Master.{Master}
 use Rattle.fs_master.specs.declared.Outcome.{Outcome}
@@ -88,25 +89,12 @@ step-watchdog m w (happening.Operator at «setSD_C» «ChFAck_C») = refl
 
 -- ---- what passes
 
--- a check fails exactly where not all three hold
-pub fails-as : (a b c : Bool) → not (a && b && c) ≡ isFailure (checkOf a b c)
-fails-as true true true = refl
-fails-as true true false = refl
-fails-as true false c = refl
-fails-as false b c = refl
-
-agrees : (a b c : Bool) → not (isFailure (checkOf a b c)) ≡ (a && b && c)
-agrees true true true = refl
-agrees true true false = refl
-agrees true false c = refl
-agrees false b c = refl
-
 received-passed : (m : Master) (r : Row) (at : ℕ) (f : Response) → received m r at f .passed ≡ (isTaken m f && sound m f)
 unfolding received arrived quiet checked
 received-passed m r at f = go (isTaken m f)
   where
     go : (b : Bool) → cond b (arrived m r at f (checked m f)) (quiet m r (isOld m f)) .passed ≡ (b && sound m f)
-    go true = agrees (f .«signature_holds») (f .«port_holds») (isExpected m f)
+    go true = passed (f .«signature_holds») (f .«port_holds») (isExpected m f)
     go false = refl
 
 pub step-passed : (m : Master) (w at : ℕ) (f : Response) → stepOf m w (happening.Response at f) .passed ≡ (isTaken (judged m w at) f && sound (judged m w at) f)

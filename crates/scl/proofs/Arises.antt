@@ -1,6 +1,6 @@
 -- The definitions that both machines share, at each of their edges: computed, with the documents' numbers. Assumes nothing.
 use mathlib.Core.Path.{_≡_, refl}
-use mathlib.Core.Bool.{Bool, true, false, not, _&&_}
+use mathlib.Core.Bool.{Bool, true, false}
 use mathlib.Core.List.{List, [], _∷_, map}
 use Prim.Native.Nat.{ℕ}
 use Rattle.scl.specs.declared.Happening.{Happening}
@@ -11,7 +11,7 @@ use Rattle.scl.specs.declared.Mark.the-variants.{Fresh, Safe, GoesOn, No
 use Rattle.scl.specs.declared.Check.the-variants as check
 use Rattle.scl.specs.Time.{elapsedOf, expiredOf}
 use Rattle.scl.specs.Counts.{countAfter, inverted}
-use Rattle.scl.specs.Happenings.{readingOf, checkOf, isFailure, markOf, markNumberOf, checkNumberOf}
+use Rattle.scl.specs.Happenings.{readingOf, checkOf, markOf, markNumberOf, checkNumberOf}
 use Rattle.scl.specs.Moved.{moved, movedHappening}
 
 -- 01, "Numbers to try": of W 100 elapsed 100 passes and 101 has expired
@@ -32,13 +32,6 @@ each-mirror = refl
 -- 000 Tables 38 and 40: CRC_check, PortNum_check, Counter_check, the first that fails
 pub each-check : (s p : Bool) → (checkOf false s p ≡ check.Signature) × ((checkOf true false p ≡ check.Port) × ((checkOf true true false ≡ check.Count) × (checkOf true true true ≡ check.None)))
 each-check s p = (refl, (refl, (refl, refl)))
-
--- it is a failure exactly where one of the three does not hold
-pub failed : (signature port count : Bool) → isFailure (checkOf signature port count) ≡ not (signature && port && count)
-failed true true true = refl
-failed true true false = refl
-failed true false count = refl
-failed false port count = refl
 
 -- 01: without release safe values; with it this call's values where an SPDU led to a row, else an empty part
 pub each-mark : (rowTaken : Bool) → (markOf rowTaken false ≡ Safe) × ((markOf true true ≡ Fresh) × (markOf false true ≡ GoesOn))

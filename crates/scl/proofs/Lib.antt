@@ -1,4 +1,5 @@
 pub mod Time
 pub mod Cases
+pub mod Checks
 pub mod Watchdog
 pub mod Arises
