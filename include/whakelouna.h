@@ -1,5 +1,5 @@
 // The C boundary of libexport.a. Each function takes every input, as long as a pointer has the octets that its length says; what it promises stands in
-// crates/export/src. Where an output buffer has a wrong length nothing is written. No struct has padding: `unused` stands in its place, 0 in every
+// crates/export/src. Where an output buffer has a wrong length nothing is written. No struct has padding: `unused` is in its place, 0 in every
 // result and in a new bench, so that results and benches can be compared and saved octet for octet.
 #ifndef WHAKELOUNA_H
 #define WHAKELOUNA_H
@@ -152,7 +152,7 @@ uint8_t whakelouna_build_response_by(const uint16_t short_table[256], const uint
 // or a timeout). What a call does: rows by 000's numbers, 0 for none; the check that failed first (0 none, 1 signature, 2 port number, 3 count); the mark
 // (0 fresh octets, 1 release goes on, 2 safe values). A machine is given the fields of an SPDU and judges no length: 10 is the bench's.
 struct whakelouna_fs_master {
-    uint32_t MTimer, sample;
+    uint32_t MTimer, start;
     uint16_t carried, awaited;
     uint8_t state, MCount;
     bool setSD, SDset_S, ChFAckReq, ChFAckReq_S, ChFAck_C_e, setSD_C, ChFAck_C, previous, runs, released;
@@ -190,7 +190,7 @@ struct whakelouna_fs_device whakelouna_device_first(uint32_t at);
 struct whakelouna_device_outcome whakelouna_device_request(struct whakelouna_fs_device device, uint16_t w, uint32_t at, struct whakelouna_request request);
 struct whakelouna_device_outcome whakelouna_device_clock(struct whakelouna_fs_device device, uint16_t w, uint32_t at);
 
-// What only an accepted parameter block moves. `running`: parameters have been accepted.
+// What only an accepted parameter block changes. `running`: parameters have been accepted.
 struct whakelouna_setting {
     struct whakelouna_params params;
     bool running;
@@ -205,7 +205,7 @@ struct whakelouna_totals {
     uint16_t highest;
 };
 
-// What a happening moves, which is a response, a request, a clock reading or operator signals: both ends, and all of the histogram but its bins.
+// What a happening changes, which is a response, a request, a clock reading or operator signals: both ends, and all of the histogram but its bins.
 struct whakelouna_live {
     struct whakelouna_fs_device device;
     struct whakelouna_fs_master master;
@@ -326,7 +326,7 @@ struct whakelouna_state {
     uint64_t records, refused;
 };
 
-// After a block: how many of its octets are used up and how many were written, and why reading stopped (0 a whole record for whose line there
+// After a chunk: how many of its octets are used up and how many were written, and why reading stopped (0 a whole record for whose line there
 // may be no room, 1 no record, which ends the session, 2 a record that is not whole, 3 no octets are left).
 struct whakelouna_fed_told {
     struct whakelouna_state state;
@@ -338,9 +338,9 @@ struct whakelouna_fed_told {
 // A session before its first record.
 struct whakelouna_state whakelouna_session_start(void);
 
-// Takes the whole records of a block and writes the lines of those refused to the front of `out`, which overlaps with nothing else that is
-// passed; at most a record for every 64 octets of it, so that with fewer than 64 none is taken. The next block begins with the octets that are not used up; as
-// a record has at most 264, a buffer of that many for the blocks is enough.
+// Uses the whole records of a chunk and writes the lines of those refused to the front of `out`, which overlaps with nothing else that is
+// passed; at most a record for every 64 octets of it, so that with fewer than 64 none is used. The next chunk begins with the octets that are not used up; as
+// a record has at most 264, a buffer of that many for the chunks is enough.
 struct whakelouna_fed_told whakelouna_session_feed(struct whakelouna_state state, const uint8_t *octets, size_t length,
     uint8_t *out, size_t out_length);
 

@@ -186,7 +186,7 @@ impl Running {
         Shown {
             running: true,
             parameters: self.parameters,
-            master: MasterModel { sample: self.sent_at, ..self.master },
+            master: MasterModel { start: self.sent_at, ..self.master },
             device: self.device,
             bins: self.samples.bins(),
             total: self.samples.total(),
@@ -228,7 +228,7 @@ fn refused_by(conditions: &[(u8, bool)]) -> Result<(), u8> {
 #[derive(Clone, Debug)]
 pub struct BenchModel {
     ports: [Option<Running>; 8],
-    /// How often each row of Tables 38 and 40 was taken.
+    /// How often each row of Tables 38 and 40 acted.
     pub rows: [u64; 32],
     /// What the last call with a reading handed on, for the FS-Master and for the FS-Device.
     pub handed_on: [Vec<u8>; 2],
@@ -502,7 +502,7 @@ impl BenchModel {
         self.addressed(port).map_or(0, |running| running.master.m_count)
     }
 
-    /// A port whose parameters are taken from it.
+    /// A port that runs no more.
     pub fn stop(&mut self, port: u8) {
         self.ports[usize::from(port) - 1] = None;
     }

@@ -5,7 +5,7 @@ use super::signature::SHORT;
 
 pub const LENGTH: usize = 48;
 
-/// The elements that a taken block hands on: offset and number of octets.
+/// The elements that an accepted block hands on: offset and number of octets.
 const PARAMETERS: [(usize, usize); 26] = [
     (2, 1),  // PortMode
     (3, 1),  // Validation&Backup
@@ -46,7 +46,7 @@ const SIGNATURES: [(usize, usize, usize); 3] = [
 /// 01, "Order for a parameter block".
 const ORDER: [u8; 8] = [8, 1, 2, 3, 4, 5, 12, 6];
 
-/// The parameters are those of a taken block, in the order of Table 22, and zeros in a refusal.
+/// The parameters are those of an accepted block, in the order of Table 22, and zeros in a refusal.
 #[derive(Clone, Copy, Debug, PartialEq, Eq)]
 pub struct Answer {
     pub number: u8,

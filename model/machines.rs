@@ -63,7 +63,7 @@ pub struct MasterModel {
     /// The count that the previous response carried, and the count awaited of it.
     pub previous: Option<(u16, u16)>,
     pub timer: Option<u32>,
-    pub sample: u32,
+    pub start: u32,
     pub uses_pd: bool,
 }
 
@@ -81,7 +81,7 @@ impl MasterModel {
             ack_c: false,
             previous: None,
             timer: None,
-            sample: at,
+            start: at,
             uses_pd: false,
         };
         model.transition(1, at, false);
@@ -131,7 +131,7 @@ impl MasterModel {
             _ => self.m_count,
         };
         if count != self.m_count {
-            self.sample = at;
+            self.start = at;
         }
         self.m_count = count;
         if matches!(number, 4 | 11) {

@@ -98,7 +98,7 @@ pub fn safe_values(bench: &BenchModel, port: u8, direction: Direction) -> Vec<u8
     vec![0; octets]
 }
 
-/// Why a block is not read any further, with the library's numbers.
+/// Why a chunk is not read any further, with the library's numbers.
 #[derive(Clone, Copy, Debug, PartialEq, Eq)]
 pub enum Stop {
     /// A whole record, for whose line there may be no room.

@@ -51,7 +51,7 @@ pub fn master_read(m: &Master) -> MasterModel {
         ack_c: m.ChFAck_C,
         previous: m.previous.then_some((m.carried, m.awaited)),
         timer: m.runs.then_some(m.MTimer),
-        sample: m.sample,
+        start: m.start,
         uses_pd: m.released,
     }
 }

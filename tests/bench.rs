@@ -377,7 +377,7 @@ fn main() {
     finish(pair);
 }
 
-/// Prints how often each answer was given and each row taken. Each has to be.
+/// Prints how often each answer was given and each row acted. Each has to be.
 fn finish(mut pair: Pair) {
     pair.take_rows();
     println!("bench: {} calls", pair.calls);
@@ -392,8 +392,8 @@ fn finish(mut pair: Pair) {
     }
     for row in ROWS {
         let count = pair.rows[row];
-        println!("bench: T{row} taken {count} times");
-        pair.comparisons.compare(true, count > 0, || format!("T{row} was taken"));
+        println!("bench: T{row} acted {count} times");
+        pair.comparisons.compare(true, count > 0, || format!("T{row} acted"));
     }
     pair.comparisons.finish();
 }

@@ -18,7 +18,7 @@ pub struct Pair {
     /// What the model's ports show. A call changes no port but the one addressed, so that the others are not asked again.
     expected: [Shown; 8],
     pub calls: u64,
-    /// How often each number was answered, 13 being a session's alone, and how often each row was taken.
+    /// How often each number was answered, 13 being a session's alone, and how often each row acted.
     pub answers: [u64; 13],
     pub rows: [u64; 32],
     /// How often each number was answered where handed on octets were copied.
@@ -155,7 +155,7 @@ impl Pair {
         expected
     }
 
-    /// What a call's own mark stands for is what 01 says of the call.
+    /// What a call's own mark hands on is what 01 says of the call.
     fn compare_words(
         &mut self,
         call: &str,
@@ -197,7 +197,7 @@ impl Pair {
         self.handed_on(call, port, end, mark, [&spdu, &safe]);
     }
 
-    /// The part that a mark stands for, copied to a buffer of its length, to longer ones and to a shorter one.
+    /// The part that a mark hands on, copied to a buffer of its length, to longer ones and to a shorter one.
     fn handed_on(&mut self, call: &str, port: u8, end: usize, mark: u8, lent: [&[u8]; 2]) {
         let (_, length, _) = self.model.hand_on(port, end, mark, lent, &[0; 40]);
         let room = [length, length + 3, length.saturating_sub(1), 40][self.calls as usize % 4];

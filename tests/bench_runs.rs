@@ -139,7 +139,7 @@ impl Runs<'_> {
     // Runs.
 
     /// Start-up, a repeated response, a damaged response, a damaged request and a silence, with release again after each. The
-    /// clock wraps in it, and every row is taken.
+    /// clock wraps in it, and every row acts.
     fn whole_session(&mut self) {
         self.pair.start();
         let before = self.pair.rows;
@@ -152,8 +152,8 @@ impl Runs<'_> {
         self.pair.show(self.port);
         self.pair.take_rows();
         for row in ROWS {
-            let taken = self.pair.rows[row] > before[row];
-            self.pair.compare(&format!("T{row} in a session"), self.port, true, taken);
+            let acted = self.pair.rows[row] > before[row];
+            self.pair.compare(&format!("T{row} in a session"), self.port, true, acted);
         }
     }
 

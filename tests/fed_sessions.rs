@@ -1,4 +1,4 @@
-// Sessions fed to the library, whole and in blocks: what each call uses up, writes and stops at, every octet of the buffers lent, the text and
+// Sessions fed to the library, whole and in chunks: what each call uses up, writes and stops at, every octet of the buffers lent, the text and
 // the bench at the end, against the model.
 
 use crate::as_model::port_read;
@@ -25,7 +25,7 @@ pub struct Feeder {
     pub cuts: u64,
     pub calls: u64,
     pub samples: u64,
-    /// How often each code was printed, each stop given and each row of Tables 38 and 40 taken.
+    /// How often each code was printed, each stop given and each row of Tables 38 and 40 acted.
     pub codes: [u64; 14],
     pub stops: [u64; 4],
     pub rows: [u64; 32],
@@ -95,7 +95,7 @@ impl Feeder {
         }
     }
 
-    /// A session whole and in blocks, behind so many records that were refused. What it prints.
+    /// A session whole and in chunks, behind so many records that were refused. What it prints.
     pub fn feed(&mut self, session: &[u8], earlier: u64) -> String {
         let Parts { records, rest } = parts(session);
         let mut run = Run::after(earlier);
@@ -107,17 +107,17 @@ impl Feeder {
         let enough = LINE * ends.len() + self.random.below(LINE);
         let whole = self.run(&course, &[session.len()], &[enough]);
         self.compare_bench(&course, &whole);
-        let (blocks, rooms) = (self.blocks(session.len()), self.rooms(ends.len()));
-        let in_blocks = self.run(&course, &blocks, &rooms);
-        let inputs = || format!("{}, blocks to {blocks:?}", octets_text(session));
-        self.comparisons.compare(true, whole.state == in_blocks.state, inputs);
+        let (chunks, rooms) = (self.chunks(session.len()), self.rooms(ends.len()));
+        let in_chunks = self.run(&course, &chunks, &rooms);
+        let inputs = || format!("{}, chunks to {chunks:?}", octets_text(session));
+        self.comparisons.compare(true, whole.state == in_chunks.state, inputs);
 
         let text = String::from_utf8_lossy(&whole.text).into_owned();
         self.count(&whole.state, &text, &run);
         text
     }
 
-    /// A session cut at every octet: torn there, and in two blocks; and fed octet by octet.
+    /// A session cut at every octet: torn there, and in two chunks; and fed octet by octet.
     pub fn feed_cut(&mut self, session: &[u8]) {
         let records = parts(session).records;
         let ends = ends(records.iter().map(|record| record.size()));
@@ -150,15 +150,15 @@ impl Feeder {
         self.run(&whole, &every, &enough);
     }
 
-    /// Where each block ends, of some octets.
-    fn blocks(&mut self, octets: usize) -> Vec<usize> {
+    /// Where each chunk ends, of some octets.
+    fn chunks(&mut self, octets: usize) -> Vec<usize> {
         let most = [4, 20, 60, 200, 1000][self.random.below(5)].max(octets / 12);
-        let mut blocks = vec![0];
-        while blocks[blocks.len() - 1] < octets {
-            let end = blocks[blocks.len() - 1] + 1 + self.random.below(most);
-            blocks.push(end.min(octets));
+        let mut chunks = vec![0];
+        while chunks[chunks.len() - 1] < octets {
+            let end = chunks[chunks.len() - 1] + 1 + self.random.below(most);
+            chunks.push(end.min(octets));
         }
-        blocks
+        chunks
     }
 
     /// For the lines of some records.
@@ -169,19 +169,19 @@ impl Feeder {
         }
     }
 
-    /// As `portbench` does: each block behind what the last call left of the one before, until a record is bad; then the end.
-    fn run(&mut self, course: &Course, blocks: &[usize], rooms: &[usize]) -> Place {
+    /// As `portbench` does: each chunk behind what the last call left of the one before, until a record is bad; then the end.
+    fn run(&mut self, course: &Course, chunks: &[usize], rooms: &[usize]) -> Place {
         let earlier = course.run.counts(0);
         let state = State { records: earlier[0], refused: earlier[1], ..session_start() };
         let mut place = Place { state, taken: 0, text: Vec::new() };
         let mut to = 0;
-        'blocks: for &end in blocks {
+        'chunks: for &end in chunks {
             to = end;
             loop {
                 let room = rooms[self.random.below(rooms.len())];
                 match self.take(course, &mut place, to, room) {
                     Stop::Full => (),
-                    Stop::Bad => break 'blocks,
+                    Stop::Bad => break 'chunks,
                     Stop::Cut | Stop::End => break,
                 }
             }
@@ -192,17 +192,17 @@ impl Feeder {
 
     /// One call: the octets between the last record taken and `to`, and a buffer of `room` octets.
     fn take(&mut self, course: &Course, place: &mut Place, to: usize, room: usize) -> Stop {
-        let block = &course.session[course.end(place.taken)..to];
+        let chunk = &course.session[course.end(place.taken)..to];
         let mut lent = Lent::new(&mut self.random, room);
         let whole = course.ends.partition_point(|&end| end <= to);
         let taken = whole.min(place.taken + room / LINE);
         let used = course.end(taken) - course.end(place.taken);
-        let stop = stop(&block[used..]);
+        let stop = stop(&chunk[used..]);
         let lines = course.run.lines(place.taken..taken);
         let expected = (course.run.counts(taken), used, lines.len(), stop as u8);
         let fronted = lent.fronted(&lines);
 
-        let told = session_feed(&place.state, block, lent.part());
+        let told = session_feed(&place.state, chunk, lent.part());
         let state = told.state;
         let found = ([state.records, state.refused], told.used, told.written, told.stop);
         let inputs = || {

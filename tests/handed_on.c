@@ -62,7 +62,7 @@ static int run(const uint8_t *s, size_t size)
         memset(ones, 0xFF, ROOM);
         memcpy(damaged, octets, length);
         damaged[0] ^= 1;
-        expect("the SPDU that was taken", bench, lent, 0, octets, process);
+        expect("the SPDU that was admitted", bench, lent, 0, octets, process);
         expect("where the port did not release yet", before, lent, 0, zeros, process);
         lent.spdu = damaged;
         expect("a damaged SPDU", bench, lent, 0, zeros, process);

@@ -304,9 +304,9 @@ fn main() {
         test.joined();
     }
     for row in MASTER_ROWS.into_iter().chain(DEVICE_ROWS) {
-        let taken = test.rows[row];
-        println!("machines: T{row} taken {taken} times");
-        test.comparisons.compare(true, taken >= 10_000, || format!("T{row} taken {taken} times"));
+        let acted = test.rows[row];
+        println!("machines: T{row} acted {acted} times");
+        test.comparisons.compare(true, acted >= 10_000, || format!("T{row} acted {acted} times"));
     }
     test.comparisons.finish();
 }

@@ -21,7 +21,7 @@ pub fn session(random: &mut Random, records: usize) -> Vec<u8> {
     writer.octets
 }
 
-/// A session that a program can't hold in one block, with more text than octets of it: most records are refused.
+/// A session that a program can't hold in one chunk, with more text than octets of it: most records are refused.
 pub fn long_session(random: &mut Random) -> Vec<u8> {
     let mut octets = session(random, 40);
     for _ in 0..random.below(30000) {

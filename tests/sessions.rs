@@ -1,4 +1,4 @@
-// Sessions fed to the library, whole, in blocks and cut at every octet, against the model. As lines of text: every session, also one that is
+// Sessions fed to the library, whole, in chunks and cut at every octet, against the model. As lines of text: every session, also one that is
 // torn or malformed, comes back from the lines that show it. What the model prints is held to document 01's examples, to those in examples/,
 // and to the codes among the lines.
 // Argument: the seed of the random inputs, or none.
@@ -33,7 +33,7 @@ use std::path::PathBuf;
 const FED: usize = 5000;
 const FED_DAMAGES: usize = 4;
 const FED_RECORDS: [usize; 2] = [24, 60];
-/// Octets that are no session, and sessions that a program can't hold in one block.
+/// Octets that are no session, and sessions that a program can't hold in one chunk.
 const ANY: usize = 300;
 const VERY_LONG: usize = 3;
 /// Sessions that are cut at every octet, every second one damaged; their records are fewer than so many.
@@ -235,11 +235,11 @@ fn earlier(random: &mut Random) -> u64 {
     }
 }
 
-/// Prints how often each code and each stop was given and each row of Table 38 taken. Each that a session can reach has to be; 7 and 11
+/// Prints how often each code and each stop was given and each row of Table 38 acted. Each that a session can reach has to be; 7 and 11
 /// are not among the codes.
 fn finish(mut feeder: Feeder) {
     let Feeder { sessions, cuts, calls, samples, .. } = feeder;
-    println!("sessions: {sessions} fed whole and in blocks, {cuts} cuts, {calls} calls");
+    println!("sessions: {sessions} fed whole and in chunks, {cuts} cuts, {calls} calls");
     println!("sessions: {samples} samples");
     for (code, &count) in feeder.codes.iter().enumerate().skip(1) {
         println!("sessions: code {code} given {count} times");
@@ -251,7 +251,7 @@ fn finish(mut feeder: Feeder) {
     }
     for row in ROWS {
         let count = feeder.rows[row];
-        println!("sessions: T{row} taken {count} times");
+        println!("sessions: T{row} acted {count} times");
         feeder.comparisons.compare(true, count > 0, || format!("T{row}"));
     }
     feeder.comparisons.finish();

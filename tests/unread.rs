@@ -1,4 +1,4 @@
-// Lengths are judged before contents: whatever has a wrong length lies here in pages that can be neither read nor written, so that a
+// Lengths are compared before contents: whatever has a wrong length lies here in pages that can be neither read nor written, so that a
 // call that touches an octet of it ends the program. No contract says how much a call reads.
 
 use crate::block_for;

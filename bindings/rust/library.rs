@@ -269,7 +269,7 @@ pub struct Response {
 #[allow(non_snake_case)]
 pub struct Master {
     pub MTimer: u32,
-    pub sample: u32,
+    pub start: u32,
     pub carried: u16,
     pub awaited: u16,
     pub state: u8,
@@ -333,7 +333,7 @@ pub struct DeviceOutcome {
     pub unused: [u8; 2],
 }
 
-/// What only an accepted block moves.
+/// What only an accepted block changes.
 #[repr(C)]
 #[derive(Clone, Copy, Debug, PartialEq)]
 pub struct Setting {
@@ -352,7 +352,7 @@ pub struct Totals {
     pub highest: u16,
 }
 
-/// What a happening moves.
+/// What a happening changes.
 #[repr(C)]
 #[derive(Clone, Copy, Debug, PartialEq)]
 pub struct Live {
@@ -451,7 +451,7 @@ pub struct State {
     pub refused: u64,
 }
 
-/// After a block. Stops: 0 a whole record, 1 no record, 2 a record cut short, 3 no octets.
+/// After a chunk. Stops: 0 a whole record, 1 no record, 2 a record cut short, 3 no octets.
 #[repr(C)]
 #[derive(Clone, Copy, Debug, PartialEq)]
 pub struct FedTold {

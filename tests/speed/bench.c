@@ -143,7 +143,7 @@ static params_t params_of(const uint8_t *b)
 
 static master_t first_master(uint32_t at)
 {
-    return (master_t) { .state = 2, .setSD = true, .SDset_S = true, .MTimer = at, .sample = at };
+    return (master_t) { .state = 2, .setSD = true, .SDset_S = true, .MTimer = at, .start = at };
 }
 
 static device_t first_device(uint32_t at)
@@ -248,7 +248,7 @@ static uint8_t mark(bool fresh, bool released)
 static void send_count(master_t *m, uint8_t count, uint32_t at)
 {
     if (count != m->MCount)
-        m->sample = at;
+        m->start = at;
     m->MCount = count;
     m->MTimer = at;
     m->runs = true;
@@ -329,15 +329,15 @@ static uint8_t take_response(port_t *p, uint32_t at, const uint8_t *spdu)
     uint8_t awaited = 7 - m->MCount;
     bool old = m->previous && (count == m->carried || count == m->awaited);
     bool expected = count == awaited;
-    bool taken = m->state == 2 ? expected : !old || (m->state == 7 && m->MCount == 0 && expected);
-    if (r.zeros || !taken)
+    bool admitted = m->state == 2 ? expected : !old || (m->state == 7 && m->MCount == 0 && expected);
+    if (r.zeros || !admitted)
         return mark(false, m->released);
     m->previous = true;
     m->carried = count;
     m->awaited = awaited;
     bool passes = r.signature && r.port && expected;
     if (passes && !old)
-        tally(p, at - m->sample);
+        tally(p, at - m->start);
     act_on_response(m, !passes || r.control & 3, r.control & 4, at);
     return mark(true, m->released);
 }

@@ -21,7 +21,7 @@ struct port {
     bool ChFAck_C, ChFAck_C_e;
     uint8_t mode, length, state, MCount, carried, awaited;
     uint16_t w, lowest, highest;
-    uint32_t MTimer, sample, total;
+    uint32_t MTimer, start, total;
 #ifdef WHOLE_PORT
     bool setSD, SDset_S, ChFAckReq, ChFAckReq_S, setSD_C, released;
     uint32_t bins[32];
@@ -92,7 +92,7 @@ static int parameters(uint8_t port, uint32_t at, const uint8_t *b, int length)
             .length = b[38],
             .state = 2,
             .w = (uint16_t)number(b + 27, 2),
-            .sample = at,
+            .start = at,
 #ifdef WHOLE_PORT
             .setSD = true,
             .SDset_S = true,
@@ -106,7 +106,7 @@ static int parameters(uint8_t port, uint32_t at, const uint8_t *b, int length)
 static void send_count(struct port *p, uint8_t count, uint32_t at)
 {
     if (count != p->MCount)
-        p->sample = at;
+        p->start = at;
     p->MCount = count;
     p->MTimer = at;
     p->runs = true;
@@ -181,15 +181,15 @@ static void take_response(struct port *p, uint8_t port, uint32_t at, const uint8
     uint8_t awaited = 7 - p->MCount;
     bool old = p->previous && (count == p->carried || count == p->awaited);
     bool expected = count == awaited;
-    bool taken = p->state == 2 ? expected : !old || (p->state == 7 && p->MCount == 0 && expected);
-    if (!taken || all_zero(spdu, p->length))
+    bool admitted = p->state == 2 ? expected : !old || (p->state == 7 && p->MCount == 0 && expected);
+    if (!admitted || all_zero(spdu, p->length))
         return;
     p->previous = true;
     p->carried = count;
     p->awaited = awaited;
     bool passes = expected && spdu[contents - 2] == port && signature_holds(p, spdu, contents);
     if (passes && !old)
-        tally(p, at - p->sample);
+        tally(p, at - p->start);
     bool faults = !passes || status & 3;
     if (p->state != 7) {
         signal(p, !faults, status & 4, -1);

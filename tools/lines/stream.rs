@@ -1,11 +1,11 @@
-// A session's records one after the other, from an input of any length: no more than a block of it is kept.
+// A session's records one after the other, from an input of any length: no more than a chunk of it is kept.
 
 use crate::model::session::{first_record, Record, HEAD};
 use std::io::{Error, ErrorKind, Read};
 
 /// The longest record.
 pub const MOST: usize = HEAD + 255;
-const BLOCK: usize = 65536;
+const CHUNK: usize = 65536;
 
 /// Why lines or a session are not all there.
 #[derive(Debug)]
@@ -18,15 +18,15 @@ pub enum Failure {
 
 pub struct Stream<R> {
     input: R,
-    block: Vec<u8>,
-    /// The octets of the block that were read and not yet taken.
+    chunk: Vec<u8>,
+    /// The octets of the chunk that were read and not yet used.
     from: usize,
     to: usize,
 }
 
 impl<R: Read> Stream<R> {
     pub fn new(input: R) -> Stream<R> {
-        Stream { input, block: vec![0; BLOCK], from: 0, to: 0 }
+        Stream { input, chunk: vec![0; CHUNK], from: 0, to: 0 }
     }
 
     /// The next record; None where what follows is no whole, well-formed one.
@@ -41,24 +41,24 @@ impl<R: Read> Stream<R> {
     pub fn octets(&mut self, most: usize) -> Result<&[u8], Failure> {
         let count = self.ahead(most)?.len().min(most);
         self.from += count;
-        Ok(&self.block[self.from - count..self.from])
+        Ok(&self.chunk[self.from - count..self.from])
     }
 
     /// The next octets, which are not taken: at least so many, or all up to the end.
     pub fn ahead(&mut self, least: usize) -> Result<&[u8], Failure> {
         if self.to - self.from < least {
-            self.block.copy_within(self.from..self.to, 0);
+            self.chunk.copy_within(self.from..self.to, 0);
             self.to -= self.from;
             self.from = 0;
         }
         while self.to - self.from < least {
-            match self.input.read(&mut self.block[self.to..]) {
+            match self.input.read(&mut self.chunk[self.to..]) {
                 Ok(0) => break,
                 Ok(count) => self.to += count,
                 Err(error) if error.kind() == ErrorKind::Interrupted => (),
                 Err(error) => return Err(Failure::Read(error)),
             }
         }
-        Ok(&self.block[self.from..self.to])
+        Ok(&self.chunk[self.from..self.to])
     }
 }

@@ -12,10 +12,10 @@ const REGULAR: u8 = 5;
 /// The rows that the watchdog leads to.
 const WATCHDOG: [usize; 2] = [8, 14];
 
-/// What an SPDU says of itself, before it is taken.
+/// What an SPDU says of itself, before it is admitted.
 pub struct Arrived {
     fields: Option<Fields>,
-    /// The count that the FS-Master awaits, before the watchdog is judged.
+    /// The count that the FS-Master awaits, before the watchdog is looked at.
     awaited: u8,
 }
 
@@ -52,7 +52,7 @@ fn expired(rows: &[usize]) -> bool {
     rows.iter().any(|row| WATCHDOG.contains(row))
 }
 
-/// Whether an SPDU was taken: by a row that is not the watchdog's.
+/// Whether an SPDU was admitted: by a row that is not the watchdog's.
 pub fn arrived(rows: &[usize]) -> bool {
     rows.iter().any(|row| !WATCHDOG.contains(row))
 }
@@ -63,9 +63,9 @@ struct History {
     /// The last fault, and the number of its record.
     fault: String,
     fault_at: u64,
-    /// SDset of the last response that was taken.
+    /// SDset of the last response that was admitted.
     sd_set: bool,
-    /// ChFAck_C as it is; whether a response was taken since it went to 1; and whether it went back to 0 before one was.
+    /// ChFAck_C as it is; whether a response was admitted since it went to 1; and whether it went back to 0 before one was.
     ack: bool,
     ack_seen: bool,
     ack_missed: bool,
@@ -103,7 +103,7 @@ impl Histories {
         Histories { ports: vec![History::default(); 256] }
     }
 
-    /// Takes in what the record of this number did, which was not refused. The watchdog is judged before a signal is taken in.
+    /// Takes in what the record of this number did, which was not refused. The watchdog is looked at before a signal is kept.
     pub fn take(&mut self, number: u64, record: &Record, spdu: &Arrived, told: &Told) {
         let port = &mut self.ports[usize::from(record.port)];
         if arrived(&told.rows) {
@@ -139,7 +139,7 @@ fn fault(history: &History, number: u64) -> String {
     }
 }
 
-/// What keeps the values safe though there is no fault: signals of the last response that was taken.
+/// What keeps the values safe though there is no fault: signals of the last response that was admitted.
 fn signals(history: &History, master: &MasterModel) -> String {
     let causes = [(master.set_sd, "setSD_C"), (history.sd_set, "the FS-Device's SDset")];
     let causes = causes.into_iter().filter(|(holds, _)| *holds).map(|(_, name)| name);
@@ -156,7 +156,7 @@ fn acknowledgement(history: &History, master: &MasterModel) -> String {
             waits && master.ack_c && !master.edge,
             "ChFAck_C is 1, and no response has passed at 0 since the fault",
         ),
-        (history.ack_missed, "ChFAck_C was 1 and 0 again, and no response was taken in between"),
+        (history.ack_missed, "ChFAck_C was 1 and 0 again, and no response was admitted in between"),
     ];
     let facts = facts.into_iter().filter(|(holds, _)| *holds);
     facts.map(|(_, words)| format!("; {words}")).collect()

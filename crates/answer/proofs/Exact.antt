@@ -66,10 +66,10 @@ onward rules e = ap (λ (a : Answer). answerBy a rules) e
 pub refused-kept : (a r : Answer) → refused a false r ≡ a
 refused-kept a r = simp (and-false (isTaken a))
 
--- ---- a refusal stands; the first rule that is broken refuses; where there is none the answer stays TAKEN
-pub stands : (a : Answer) (rules : List Rule) → isTaken a ≡ false → answerBy a rules ≡ a
-stands a [] h = refl
-stands a (rule b r ∷ rules) h = rw h (stands a rules h)
+-- ---- a refusal stays; the first rule that is broken refuses; where there is none the answer stays TAKEN
+pub stays : (a : Answer) (rules : List Rule) → isTaken a ≡ false → answerBy a rules ≡ a
+stays a [] h = refl
+stays a (rule b r ∷ rules) h = rw h (stays a rules h)
 
 later : {a : Answer} {rules : List Rule} {i : ℕ} → First rules i → First (rule false a ∷ rules) (suc i)
 later {a} {rules} {i} f = record { broken = f .broken; earlier = go }
@@ -106,7 +106,7 @@ false-of-not false t = refl
 
 refuses : (rules : List Rule) (i : ℕ) → T (refusing rules) → First rules i → answerBy Taken rules ≡ answerAt rules i
 refuses [] i t f = absurd (false≢true (f .broken))
-refuses (rule true a ∷ rules) zero t f = stands a rules (false-of-not (isTaken a) (and-yes (not (isTaken a)) (refusing rules) t .0))
+refuses (rule true a ∷ rules) zero t f = stays a rules (false-of-not (isTaken a) (and-yes (not (isTaken a)) (refusing rules) t .0))
 refuses (rule false a ∷ rules) zero t f = absurd (false≢true (f .broken))
 refuses (rule true a ∷ rules) (suc i) t f = absurd (true≢false (f .earlier 0 (omega arith)))
 refuses (rule false a ∷ rules) (suc i) t f = refuses rules i (and-yes (not (isTaken a)) (refusing rules) t .1) (sooner f)

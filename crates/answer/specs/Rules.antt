@@ -12,7 +12,7 @@ use Rattle.answer.specs.Answers.{isTaken}
 pub data Rule : Type 0 where
   rule : Bool → Answer → Rule
 
--- after the answer a of the rules before: an earlier refusal stands; else a broken rule refuses
+-- after the answer a of the rules before: an earlier refusal stays; else a broken rule refuses
 abbrev pub refused : Answer → Bool → Answer → Answer
 refused a broken refusal = cond (isTaken a && broken) refusal a
 

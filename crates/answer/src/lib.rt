@@ -70,7 +70,7 @@ pub fn is_taken(answer: Answer) -> bool
     number(answer) == 0
 }
 
-// One rule of a call: an earlier refusal stands; else a broken rule refuses.
+// One rule of a call: an earlier refusal stays; else a broken rule refuses.
 pub fn refuse(answer: Answer, broken: bool, refusal: Answer) -> Answer
     ensures { λ r. ⌜ r ≡ refused answer broken refusal ⌝ }
 {

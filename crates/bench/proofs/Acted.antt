@@ -9,7 +9,7 @@ use Rattle.answer.specs.declared.Answer.{Answer}
 use Rattle.answer.specs.declared.Answer.the-variants as answers
 use Rattle.answer.specs.Answers.{isTaken}
 use Rattle.answer.specs.Rules as answering
-use Rattle.answer.proofs.Exact.{onward, stands}
+use Rattle.answer.proofs.Exact.{onward, stays}
 use Rattle.ranges.specs.Fields.{outside}
 use Rattle.block.specs.declared.Params.{Params}
 use Rattle.block.specs.Rules.{rulesOn, judgedAs}
@@ -126,7 +126,7 @@ pub nowhere-block : (port : ℕ) (octets : List ℕ) → outside 1 8 port ≡ tr
 unfolding calls.askedByBlock
 nowhere-block port octets e =
     let later = drop 1 (rulesOn octets port) in
-    ap (λ (a : Answer). calls.askedByBlock (judgedAs a (paramsOf octets))) (onward later (ap (λ (o : Bool). answering.refused answers.Taken o answers.NoPort) e) ∙ stands answers.NoPort later refl)
+    ap (λ (a : Answer). calls.askedByBlock (judgedAs a (paramsOf octets))) (onward later (ap (λ (o : Bool). answering.refused answers.Taken o answers.NoPort) e) ∙ stays answers.NoPort later refl)
 
 -- ---- In columns: what is stored there is what the act makes of the ports
 

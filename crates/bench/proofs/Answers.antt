@@ -27,7 +27,7 @@ use Rattle.bench.specs.Calls.{callRules, asked, askedByBlock, done, plac
 use Rattle.bench.specs.Images.{composeAnswer, composed, buildAnswer, responseOut, splitAnswer, spduPart, otherPart}
 use Rattle.bench.specs.Handing.{handedTo, handedOut}
 use Rattle.bench.specs.Shown.{trendOf, binsOf, masterOf, deviceOf}
-use Rattle.bench.specs.History.{NoReading, Compose, BuildResponse, Split, HandOn, Trend, Bins, ShowMaster, ShowDevice, Call, SetParameters, ReceiveResponse, ReceiveRequest, Clock, Operator, WithoutReading, portOf, rulesWithoutReading, rulesOf, answerWithoutReading, answerOf, after, history}
+use Rattle.bench.specs.History.{NoReading, Compose, BuildResponse, Split, HandOn, Trend, Bins, ShowMaster, ShowDevice, Call, SetParameters, ReceiveResponse, ReceiveRequest, Clock, Operator, WithoutReading, addressed, rulesWithoutReading, rulesOf, answerWithoutReading, answerOf, after, history}
 use Rattle.bench.proofs.Taken.{taken-is, on-buffers, both-kept}
 use Rattle.bench.proofs.Index.{placed-refused}
 
@@ -63,8 +63,8 @@ answer-without-reading port p Bins = refl
 answer-without-reading port p ShowMaster = refl
 answer-without-reading port p ShowDevice = refl
 
-pub answer-is : (b : Bench) (c : Call) → answerOf b c ≡ answerBy Taken (rulesOf (portAt b (portOf c)) c)
-unfolding answerOf rulesOf portOf placed
+pub answer-is : (b : Bench) (c : Call) → answerOf b c ≡ answerBy Taken (rulesOf (portAt b (addressed c)) c)
+unfolding answerOf rulesOf addressed placed
 answer-is b (SetParameters port at octets) = block-answer (portAt b port) at (judged octets port)
 answer-is b (ReceiveResponse port at spdu safe) = asked-answer (portAt b port) at _ _
 answer-is b (ReceiveRequest port at spdu safe) = asked-answer (portAt b port) at _ _

@@ -30,7 +30,7 @@ use Rattle.fs_master.specs.Table38 as table38
 use Rattle.fs_master.specs.Calls as masters
 use Rattle.fs_master.specs.Regular as regularMasters
 use Rattle.fs_master.specs.History as masterSpecs
-use Rattle.fs_master.specs.History.{masterAfter, judgedIn, passesBy, lastTaken, isOldAfter, previousBy, hasPassed, signals, HoldsSignals, takenBy, faultyBy, None, Open, answeredBy, fault}
+use Rattle.fs_master.specs.History.{masterAfter, watchedIn, passesBy, lastAdmitted, isOldAfter, previousBy, hasPassed, signals, HasSignals, admittedBy, faultyBy, None, Open, answeredBy, fault}
 use Rattle.fs_device.specs.Table40 as table40
 use Rattle.fs_device.specs.Calls as devices
 use Rattle.fs_device.specs.History as deviceSpecs
@@ -39,7 +39,7 @@ use Rattle.histogram.specs.Samples.{binCount, inBin, limit, sumOf, lowestOf, hi
 use Rattle.histogram.specs.Counted as counted
 use Rattle.histogram.specs.Trends.{Shows, zero}
 use Rattle.samples.specs.Tallied.{talliedBy}
-use Rattle.samples.specs.Samples.{oldBy, sentSince, answered, timeOf, isSample, samples}
+use Rattle.samples.specs.Samples.{oldBy, sentSince, passedForCount, timeOf, isSample, samples}
 use Rattle.bench.specs.declared.Port.{Port}
 use Rattle.bench.specs.Ports.{newPort, acceptedPort, newBench, noPort, portAt, withPort, turnOf, stored, said, stepOf, silent, firstLive}
 use Rattle.bench.specs.Regular.{isRegular, regularOf}
@@ -48,12 +48,12 @@ use Rattle.bench.specs.Images.{composeAnswer, composed, buildAnswer, res
 use Rattle.bench.specs.declared.End.the-variants as end
 use Rattle.bench.specs.Handing.{handedTo, handedOut}
 use Rattle.bench.specs.Shown.{trendOf, binsOf}
-use Rattle.bench.specs.History.{Call, SetParameters, ReceiveResponse, ReceiveRequest, Clock, portOf, answerOf, after, history, addressing, goesOn, extended, since, sinceBlock, StandsSince, Stands, Arising, blockIn, OctetsIn, no-call, one-more, octetsOut, Operator, WithoutReading, Compose, BuildResponse, Split, HandOn, Trend, Bins, ShowMaster, ShowDevice, rulesOf, rulesWithoutReading}
+use Rattle.bench.specs.History.{Call, SetParameters, ReceiveResponse, ReceiveRequest, Clock, addressed, answerOf, after, history, addressing, goesOn, extended, since, sinceBlock, MatchesSince, Matches, Arising, blockIn, OctetsIn, no-call, one-more, octetsOut, Operator, WithoutReading, Compose, BuildResponse, Split, HandOn, Trend, Bins, ShowMaster, ShowDevice, rulesOf, rulesWithoutReading}
 use Rattle.bench.proofs.Answers.{refused-same, left-out, compose-refused, build-refused, split-refused, split-taken, handed-refused}
 use Rattle.bench.proofs.AtPort.{eight, takenAt, taken-at, other-at, others}
 use Rattle.bench.proofs.Regulars.{regular-turn}
-use Rattle.bench.proofs.History.{stands}
-use Rattle.bench.proofs.Release.{standing, passed-first, acknowledged, signals-hold, cycles-first, after-error}
+use Rattle.bench.proofs.History.{matches}
+use Rattle.bench.proofs.Release.{matching, passed-first, acknowledged, signals-hold, cycles-first, after-error}
 use Rattle.bench.proofs.Showing.{NoneShown, refused-shown, refused-trend, bins-shown, bins-many, total-shown, frozen-shown, trend-answer, trend-shown}
 use Rattle.bench.proofs.Silent.{NothingSaid, Says, refused-says}
 use Rattle.bench.proofs.Sent as sends
@@ -144,7 +144,7 @@ record Asked : Type 0 where
   has-responded : port .live .device .responded ≡ true
 
 asked : Asked
-unfolding hadErrorOrTimeout hadError hadTimeout deviceAfter samples isSample timeOf sentSince answered oldBy isOldAfter lastTaken previousBy masterAfter judgedIn passesBy sinceBlock extended goesOn portOf answerOf after history calls.placed calls.asked calls.askedByBlock calls.done portAt withPort newBench newPort noPort acceptedPort turnOf stored said stepOf talliedBy silent signing.signature signing.octet signing.shiftInAll signing.shiftIn elapsedOf table38.watchdogRow table38.isOld table38.isTaken table38.checked table38.from8 table38.arrivalRow table38.taken table38.sampleFrom table38.t4 table38.acted masters.judged masters.quiet masters.arrived masters.received masters.watched masters.stepOf table40.watchdogRow table40.isTaken table40.checked table40.arrivalRow table40.taken table40.t22 table40.t25 table40.t28 table40.t29 table40.acted devices.judged devices.quiet devices.arrived devices.received devices.watched devices.stepOf counted.frozenOf counted.withSample counted.countedOf counted.totalledOf
+unfolding hadErrorOrTimeout hadError hadTimeout deviceAfter samples isSample timeOf sentSince passedForCount oldBy isOldAfter lastAdmitted previousBy masterAfter watchedIn passesBy sinceBlock extended goesOn addressed answerOf after history calls.placed calls.asked calls.askedByBlock calls.done portAt withPort newBench newPort noPort acceptedPort turnOf stored said stepOf talliedBy silent signing.signature signing.octet signing.shiftInAll signing.shiftIn elapsedOf table38.watchdogRow table38.isOld table38.isAdmitted table38.checked table38.from8 table38.arrivalRow table38.admitted table38.startFrom table38.t4 table38.acted masters.watched masters.quiet masters.arrived masters.received masters.clocked masters.stepOf table40.watchdogRow table40.isAdmitted table40.checked table40.arrivalRow table40.admitted table40.t22 table40.t25 table40.t28 table40.t29 table40.acted devices.watched devices.quiet devices.arrived devices.received devices.clocked devices.stepOf counted.frozenOf counted.withSample counted.countedOf counted.totalledOf
 asked = record {
   block = refl;
   runs = refl;
@@ -184,26 +184,26 @@ cycles-first-met = cycles-first 1 refl worked 1000 (paramsOf good) past (asked .
 pub after-error-met : 4 < passedSince 1000 100 past
 after-error-met = after-error 1 refl worked 1000 (paramsOf good) past (asked .block) (asked .had-error) (asked .device-releases)
 
-pub signals-hold-met : HoldsSignals (signals past) (port .live .master)
+pub signals-hold-met : HasSignals (signals past) (port .live .master)
 signals-hold-met = signals-hold 1 refl worked 1000 (paramsOf good) past (asked .block)
 
-stands-met : StandsSince port 1000 (paramsOf good) past
-unfolding Stands
-stands-met = rw (asked .block) at (stands 1 refl worked)
+matches-met : MatchesSince port 1000 (paramsOf good) past
+unfolding Matches
+matches-met = rw (asked .block) at (matches 1 refl worked)
 
 pub trend-shown-met :
     let counted = take limit (samples 1000 100 past) in
     Shows (sumOf counted) (length counted) (lowestOf counted) (highestOf counted) (trendOf 1 port .point)
-trend-shown-met = trend-shown 1 refl port 1000 (paramsOf good) past stands-met (rw (asked .one-sample) (omega arith))
+trend-shown-met = trend-shown 1 refl port 1000 (paramsOf good) past matches-met (rw (asked .one-sample) (omega arith))
 
 pub bins-shown-met : (i : ℕ) → i < binCount → getD (binsOf 1 port .bins) i 0 ≡ inBin 100 i (take limit (samples 1000 100 past))
-bins-shown-met i h = bins-shown 1 refl port 1000 (paramsOf good) past stands-met i h
+bins-shown-met i h = bins-shown 1 refl port 1000 (paramsOf good) past matches-met i h
 
 pub bins-many-met : length (binsOf 1 port .bins) ≡ binCount
-bins-many-met = bins-many 1 refl port 1000 (paramsOf good) past stands-met
+bins-many-met = bins-many 1 refl port 1000 (paramsOf good) past matches-met
 
 pub total-shown-met : binsOf 1 port .total ≡ length (take limit (samples 1000 100 past))
-total-shown-met = total-shown 1 refl port 1000 (paramsOf good) past stands-met
+total-shown-met = total-shown 1 refl port 1000 (paramsOf good) past matches-met
 
 -- the one sample, 10 of 100, has the bin 3
 pub one-shown : (getD (binsOf 1 port .bins) 3 0 ≡ 1) × (binsOf 1 port .total ≡ 1)
@@ -219,10 +219,10 @@ unfolding trendOf
 refused-trend-met = refused-trend 9 port refl
 
 pub frozen-shown-met : binsOf 1 port .frozen ≡ leb limit (length (samples 1000 100 past))
-frozen-shown-met = frozen-shown 1 refl port 1000 (paramsOf good) past stands-met
+frozen-shown-met = frozen-shown 1 refl port 1000 (paramsOf good) past matches-met
 
 pub trend-answer-met : trendOf 1 port .answer ≡ cond (eqb (length (samples 1000 100 past)) 0) NoSamples Taken
-trend-answer-met = trend-answer 1 refl port 1000 (paramsOf good) past stands-met
+trend-answer-met = trend-answer 1 refl port 1000 (paramsOf good) past matches-met
 
 pub refused-same-met : after newBench refused ≡ newBench
 refused-same-met = refused-same newBench refused (asked .clock-refused)
@@ -236,11 +236,11 @@ unfolding history
 left-out-met = left-out worked refused [] (asked .clock-refused)
 
 pub taken-at-met : portAt (after (history earlier) (ReceiveRequest 1 1070 request safe)) 1 ≡ takenAt before (ReceiveRequest 1 1070 request safe)
-unfolding portOf
+unfolding addressed
 taken-at-met = taken-at (history earlier) (eight earlier) (ReceiveRequest 1 1070 request safe) refl (asked .last-taken)
 
 pub other-at-met : portAt (after (history earlier) refused) 1 ≡ before
-unfolding portOf
+unfolding addressed
 other-at-met = other-at (history earlier) (eight earlier) 1 refl refused refl
 
 pub others-met : portAt (history (refused ∷ worked)) 1 ≡ portAt (history (addressing 1 (refused ∷ worked))) 1
@@ -289,7 +289,7 @@ pub record Handed : Type 0 where
   device-fresh-only : deviceSpecs.FreshBy (before .live .device) (before .setting .params .«FSP_WatchdogTime») (happening.Request 1070 readRequest)
 
 pub handed-met : Handed
-unfolding portOf answerOf after history calls.placed calls.asked calls.askedByBlock calls.done portAt withPort newBench newPort noPort acceptedPort turnOf stored said stepOf talliedBy silent signing.signature signing.octet signing.shiftInAll signing.shiftIn elapsedOf table38.watchdogRow table38.isOld table38.isTaken table38.checked table38.from8 table38.arrivalRow table38.taken table38.sampleFrom table38.t4 table38.acted masters.judged masters.quiet masters.arrived masters.received masters.watched masters.operated table38.signalled masters.stepOf table40.watchdogRow table40.isTaken table40.checked table40.arrivalRow table40.taken table40.t22 table40.t25 table40.t28 table40.t29 table40.acted devices.judged devices.quiet devices.arrived devices.received devices.watched devices.stepOf counted.frozenOf counted.withSample counted.countedOf counted.totalledOf
+unfolding addressed answerOf after history calls.placed calls.asked calls.askedByBlock calls.done portAt withPort newBench newPort noPort acceptedPort turnOf stored said stepOf talliedBy silent signing.signature signing.octet signing.shiftInAll signing.shiftIn elapsedOf table38.watchdogRow table38.isOld table38.isAdmitted table38.checked table38.from8 table38.arrivalRow table38.admitted table38.startFrom table38.t4 table38.acted masters.watched masters.quiet masters.arrived masters.received masters.clocked masters.operated table38.signalled masters.stepOf table40.watchdogRow table40.isAdmitted table40.checked table40.arrivalRow table40.admitted table40.t22 table40.t25 table40.t28 table40.t29 table40.acted devices.watched devices.quiet devices.arrived devices.received devices.clocked devices.stepOf counted.frozenOf counted.withSample counted.countedOf counted.totalledOf
 handed-met = record {
   response-hands-on = handing.response-hands-on 1 begun 1010 response safe refl;
   request-hands-on = handing.request-hands-on 1 before 1070 request safe refl;
@@ -326,7 +326,7 @@ pub record Copied : Type 0 where
   no-port : handedTo 9 port end.Device Fresh request safe 1 .answer ≡ NoPort
 
 pub copied-met : Copied
-unfolding portOf answerOf after history calls.placed calls.asked calls.askedByBlock calls.done portAt withPort newBench newPort noPort acceptedPort turnOf stored said stepOf talliedBy silent signing.signature signing.octet signing.shiftInAll signing.shiftIn elapsedOf table38.watchdogRow table38.isOld table38.isTaken table38.checked table38.from8 table38.arrivalRow table38.taken table38.sampleFrom table38.t4 table38.acted masters.judged masters.quiet masters.arrived masters.received masters.watched masters.operated table38.signalled masters.stepOf table40.watchdogRow table40.isTaken table40.checked table40.arrivalRow table40.taken table40.t22 table40.t25 table40.t28 table40.t29 table40.acted devices.judged devices.quiet devices.arrived devices.received devices.watched devices.stepOf counted.frozenOf counted.withSample counted.countedOf counted.totalledOf handedTo handedOut
+unfolding addressed answerOf after history calls.placed calls.asked calls.askedByBlock calls.done portAt withPort newBench newPort noPort acceptedPort turnOf stored said stepOf talliedBy silent signing.signature signing.octet signing.shiftInAll signing.shiftIn elapsedOf table38.watchdogRow table38.isOld table38.isAdmitted table38.checked table38.from8 table38.arrivalRow table38.admitted table38.startFrom table38.t4 table38.acted masters.watched masters.quiet masters.arrived masters.received masters.clocked masters.operated table38.signalled masters.stepOf table40.watchdogRow table40.isAdmitted table40.checked table40.arrivalRow table40.admitted table40.t22 table40.t25 table40.t28 table40.t29 table40.acted devices.watched devices.quiet devices.arrived devices.received devices.clocked devices.stepOf counted.frozenOf counted.withSample counted.countedOf counted.totalledOf handedTo handedOut
 copied-met = record {
   by-response = handingAfter.response-handed 1 begun 1010 response safe (7 ∷ 7 ∷ []) refl (omega arith);
   by-request = record { told = refl; written = refl };
@@ -363,7 +363,7 @@ process = 0x2A ∷ []
 abbrev image : List ℕ
 image = replicate 5 7
 
-module _ (p : Port) (at : ℕ) (past : List Happening) (s : StandsSince p at (paramsOf good) past) where
+module _ (p : Port) (at : ℕ) (past : List Happening) (s : MatchesSince p at (paramsOf good) past) where
   composes : isTaken (composeAnswer 1 p process [] image) ≡ true
   unfolding composeAnswer
   composes = rw (s .running, s .parameters) refl
@@ -383,22 +383,22 @@ abbrev faulty : Port
 faulty = portAt (history damaged) 1
 
 faulty-block : sinceBlock 1 damaged ≡ since 1000 (paramsOf good) faultyPast
-unfolding sinceBlock extended goesOn portOf answerOf after history calls.placed calls.asked calls.askedByBlock calls.done portAt withPort newBench newPort noPort acceptedPort turnOf stored said stepOf silent signing.signature signing.octet signing.shiftInAll signing.shiftIn
+unfolding sinceBlock extended goesOn addressed answerOf after history calls.placed calls.asked calls.askedByBlock calls.done portAt withPort newBench newPort noPort acceptedPort turnOf stored said stepOf silent signing.signature signing.octet signing.shiftInAll signing.shiftIn
 faulty-block = refl
 
 fault-open : fault 1000 100 faultyPast ≡ Open
-unfolding fault takenBy faultyBy answeredBy signals judgedIn masterAfter signing.signature signing.octet signing.shiftInAll signing.shiftIn table38.watchdogRow table38.isOld table38.isTaken table38.checked table38.arrivalRow masters.judged masters.quiet masters.arrived masters.received masters.stepOf table38.acted
+unfolding fault admittedBy faultyBy answeredBy signals watchedIn masterAfter signing.signature signing.octet signing.shiftInAll signing.shiftIn table38.watchdogRow table38.isOld table38.isAdmitted table38.checked table38.arrivalRow masters.watched masters.quiet masters.arrived masters.received masters.stepOf table38.acted
 fault-open = refl
 
 is-faulty : fault 1000 100 faultyPast ≡ None → ⊥
 is-faulty e = let z : Open ≡ None = sym fault-open ∙ e in let o : _≡_ {A = ℕ} 0 1 = cc in absurd (omega arith)
 
-faulty-stands : StandsSince faulty 1000 (paramsOf good) faultyPast
-faulty-stands = standing 1 refl damaged 1000 (paramsOf good) faultyPast faulty-block
+faulty-matches : MatchesSince faulty 1000 (paramsOf good) faultyPast
+faulty-matches = matching 1 refl damaged 1000 (paramsOf good) faultyPast faulty-block
 
 no-response-yet : faulty .live .device .responded ≡ false
-unfolding deviceAfter table40.watchdogRow table40.acted devices.judged devices.quiet devices.watched devices.stepOf
-no-response-yet = rw (faulty-stands .device) refl
+unfolding deviceAfter table40.watchdogRow table40.acted devices.watched devices.quiet devices.clocked devices.stepOf
+no-response-yet = rw (faulty-matches .device) refl
 
 -- process octets as lent and the FS-Device's answer to its last request; zeros with setSD 1 while the fault is open; zeros before the first response
 pub record Out : Type 0 where
@@ -414,21 +414,21 @@ pub record Out : Type 0 where
 
 pub out-met : Out
 out-met =
-    let composed = composes port 1000 past stands-met in
-    let built = builds port 1000 past stands-met in
+    let composed = composes port 1000 past matches-met in
+    let built = builds port 1000 past matches-met in
     record {
       process-sent = sends.process-sent 1 port process [] image composed ∙ ap (λ (b : Bool). cond b (replicate (octetsOut port) 0) process) (asked .values-sent);
       request-sent = sends.request-sent 1 port process [] image composed ∙ ap (λ (b : Bool). requestBack (port .live .master .MCount) b (port .live .master .ChFAckReq)) (asked .values-sent);
       zeros-with-setSD = sends.zeros-with-setSD 1 port process [] image composed;
-      safe-while-faulty = sends.safe-while-faulty 1 refl damaged 1000 (paramsOf good) faultyPast faulty-block is-faulty process [] image (composes faulty 1000 faultyPast faulty-stands);
+      safe-while-faulty = sends.safe-while-faulty 1 refl damaged 1000 (paramsOf good) faultyPast faulty-block is-faulty process [] image (composes faulty 1000 faultyPast faulty-matches);
       process-answered = sends.process-answered 1 port process image built (asked .has-responded);
       response-sent = sends.response-sent 1 port process image built (asked .has-responded);
-      zeros-first = sends.zeros-first 1 faulty process image (builds faulty 1000 faultyPast faulty-stands) no-response-yet;
+      zeros-first = sends.zeros-first 1 faulty process image (builds faulty 1000 faultyPast faulty-matches) no-response-yet;
     }
 
 -- ---- the response is a regular one: port 1 takes the turn that is written apart
 is-regular : isRegular (begun .setting) (begun .live) (happening.Response 1010 read) ≡ true
-unfolding isRegular regularMasters.isRegular table38.isOld devices.stands talliedBy counted.totalledOf limit elapsedOf after history calls.placed calls.askedByBlock calls.done portAt withPort newBench newPort noPort acceptedPort silent signing.signature signing.octet signing.shiftInAll signing.shiftIn
+unfolding isRegular regularMasters.isRegular table38.isOld devices.unchanged talliedBy counted.totalledOf limit elapsedOf after history calls.placed calls.askedByBlock calls.done portAt withPort newBench newPort noPort acceptedPort silent signing.signature signing.octet signing.shiftInAll signing.shiftIn
 is-regular = refl
 
 pub regular-turn-met : regularOf (begun .setting) (begun .live) (happening.Response 1010 read) ≡ turnOf (begun .setting) (begun .live) (happening.Response 1010 read)

@@ -24,7 +24,7 @@ use Rattle.bench.specs.declared.Port.{Port}
 use Rattle.bench.specs.declared.Bench.{Bench}
 use Rattle.bench.specs.Ports.{acceptedPort, newBench, portAt, stepOf}
 use Rattle.bench.specs.Calls.{asked, askedByBlock, done, placed}
-use Rattle.bench.specs.History.{Call, SetParameters, ReceiveResponse, ReceiveRequest, Clock, Operator, WithoutReading, portOf, rulesOf, answerOf, after, history, addressing}
+use Rattle.bench.specs.History.{Call, SetParameters, ReceiveResponse, ReceiveRequest, Clock, Operator, WithoutReading, addressed, rulesOf, answerOf, after, history, addressing}
 use Rattle.bench.proofs.Index.{placed-same, placed-other, placed-length}
 use Rattle.bench.proofs.Answers.{asked-answer, block-answer, answer-is, refused-same}
 
@@ -69,8 +69,8 @@ module _ (b : Bench) (all : length (b .ports) ≡ 8) where
   happened-at : (port at : ℕ) (a : Answer) (h : Happening) → outside 1 8 port ≡ false → isTaken (done (portAt b port) at (asked a h) .reply .answer) ≡ true → portAt (placed b port (done (portAt b port) at (asked a h)) .bench) port ≡ stepOf (portAt b port) h .port
   happened-at port at a h k e = placed-same b all port k (done (portAt b port) at (asked a h)) e ∙ asked-port (portAt b port) at a h e
 
-  pub taken-at : (c : Call) → outside 1 8 (portOf c) ≡ false → isTaken (answerOf b c) ≡ true → portAt (after b c) (portOf c) ≡ takenAt (portAt b (portOf c)) c
-  unfolding after answerOf portOf takenAt placed
+  pub taken-at : (c : Call) → outside 1 8 (addressed c) ≡ false → isTaken (answerOf b c) ≡ true → portAt (after b c) (addressed c) ≡ takenAt (portAt b (addressed c)) c
+  unfolding after answerOf addressed takenAt placed
   taken-at (SetParameters port at octets) k e =
       let j = judged octets port in
       let t : isTaken (j .answer) ≡ true = sym (ap isTaken (block-answer (portAt b port) at j)) ∙ e in
@@ -82,8 +82,8 @@ module _ (b : Bench) (all : length (b .ports) ≡ 8) where
   taken-at (WithoutReading port act) k e = refl
 
   -- a call to another port
-  pub other-at : (q : ℕ) → outside 1 8 q ≡ false → (c : Call) → eqb (portOf c) q ≡ false → portAt (after b c) q ≡ portAt b q
-  unfolding after portOf
+  pub other-at : (q : ℕ) → outside 1 8 q ≡ false → (c : Call) → eqb (addressed c) q ≡ false → portAt (after b c) q ≡ portAt b q
+  unfolding after addressed
   other-at q k (SetParameters port at octets) e = placed-other b all q k port _ e
   other-at q k (ReceiveResponse port at spdu safe) e = placed-other b all q k port _ e
   other-at q k (ReceiveRequest port at spdu safe) e = placed-other b all q k port _ e
@@ -92,29 +92,29 @@ module _ (b : Bench) (all : length (b .ports) ≡ 8) where
   other-at q k (WithoutReading port act) e = refl
 
 -- ---- what a call does to its port depends on that port alone
-answers-same : (b d : Bench) (c : Call) → portAt b (portOf c) ≡ portAt d (portOf c) → answerOf b c ≡ answerOf d c
+answers-same : (b d : Bench) (c : Call) → portAt b (addressed c) ≡ portAt d (addressed c) → answerOf b c ≡ answerOf d c
 answers-same b d c e = answer-is b c ∙ ap (λ (p : Port). answerBy Taken (rulesOf p c)) e ∙ sym (answer-is d c)
 
-module _ (b d : Bench) (all-b : length (b .ports) ≡ 8) (all-d : length (d .ports) ≡ 8) (c : Call) (known : outside 1 8 (portOf c) ≡ false) where
-  after-same : portAt b (portOf c) ≡ portAt d (portOf c) → portAt (after b c) (portOf c) ≡ portAt (after d c) (portOf c)
+module _ (b d : Bench) (all-b : length (b .ports) ≡ 8) (all-d : length (d .ports) ≡ 8) (c : Call) (known : outside 1 8 (addressed c) ≡ false) where
+  after-same : portAt b (addressed c) ≡ portAt d (addressed c) → portAt (after b c) (addressed c) ≡ portAt (after d c) (addressed c)
   after-same e = go (isTaken (answerOf b c)) refl
     where
-      go : (t : Bool) → isTaken (answerOf b c) ≡ t → portAt (after b c) (portOf c) ≡ portAt (after d c) (portOf c)
+      go : (t : Bool) → isTaken (answerOf b c) ≡ t → portAt (after b c) (addressed c) ≡ portAt (after d c) (addressed c)
       go true t =
           taken-at b all-b c known t ∙ ap (λ (p : Port). takenAt p c) e ∙ sym (taken-at d all-d c known (ap isTaken (sym (answers-same b d c e)) ∙ t))
       go false t =
-          ap (λ (n : Bench). portAt n (portOf c)) (refused-same b c t) ∙ e
-          ∙ sym (ap (λ (n : Bench). portAt n (portOf c)) (refused-same d c (ap isTaken (sym (answers-same b d c e)) ∙ t)))
+          ap (λ (n : Bench). portAt n (addressed c)) (refused-same b c t) ∙ e
+          ∙ sym (ap (λ (n : Bench). portAt n (addressed c)) (refused-same d c (ap isTaken (sym (answers-same b d c e)) ∙ t)))
 
 -- Calls to other ports could be left out of the history with no difference to a port.
 pub others : (q : ℕ) → outside 1 8 q ≡ false → (past : List Call) → portAt (history past) q ≡ portAt (history (addressing q past)) q
 unfolding history addressing
 others q k [] = refl
-others q k (c ∷ past) = go (eqb (portOf c) q) refl (others q k past)
+others q k (c ∷ past) = go (eqb (addressed c) q) refl (others q k past)
   where
-    go : (same : Bool) → eqb (portOf c) q ≡ same → portAt (history past) q ≡ portAt (history (addressing q past)) q
+    go : (same : Bool) → eqb (addressed c) q ≡ same → portAt (history past) q ≡ portAt (history (addressing q past)) q
         → portAt (after (history past) c) q ≡ portAt (history (cond same (c ∷ addressing q past) (addressing q past))) q
     go true e i =
-        let z : portOf c ≡ q = eqb-true (portOf c) q e in
+        let z : addressed c ≡ q = eqb-true (addressed c) q e in
         rw z at (after-same (history past) (history (addressing q past)) (eight past) (eight (addressing q past)) c (rw z k) (rw z i))
     go false e i = other-at (history past) (eight past) q k c e ∙ i

@@ -66,7 +66,7 @@ module _ (s : List Setting) (l : List Live) (b : List (List ℕ)) where
 
 -- ---- From a bench and back
 
--- columns taken of some ports, side by side, are the ports
+-- columns of some ports, side by side, are the ports
 pub columns-of : (ports : List Port) → portsOf (settingsIn ports) (livesIn ports) (binsIn ports) ≡ ports
 columns-of [] = refl
 columns-of (p ∷ ports) = ap (λ (l : List Port). p ∷ l) (columns-of ports)

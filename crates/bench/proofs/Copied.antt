@@ -24,7 +24,7 @@ pub record Copied (port : ℕ) (p : Port) (e : End) (mark : Mark) (spdu safe out
   pub told-is : told ≡ handedTo port p e mark spdu safe (length out)
   pub later-is : later ≡ handedOut port p e mark spdu safe out
 
--- the last rule is on two things: where the answer on the first is a refusal it stands, else the second decides
+-- the last rule is on two things: where the answer on the first is a refusal it stays, else the second decides
 both : (a : Answer) (x y : Bool) → refused a (not (x && y)) Buffer ≡ cond (isTaken (refused a (not x) Buffer)) (cond y Taken Buffer) (refused a (not x) Buffer)
 both a x y = go (isTaken a) refl x y
   where

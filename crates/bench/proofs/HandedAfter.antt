@@ -36,8 +36,8 @@ use Rattle.bench.specs.declared.End.the-variants as end
 use Rattle.bench.specs.declared.Reply.{Reply}
 use Rattle.bench.specs.Ports.{PortAfter, portAt, turnOf, stored, said, stepOf}
 use Rattle.bench.specs.Calls as calls
-use Rattle.bench.specs.Handing.{isFresh, lengthAt, safeHoldsAt, releasesAt, isLastAt, unlessSafe, standsFor, partAt, handRules, handedTo, handedOut}
-use Rattle.bench.specs.History.{handsOn, octetsIn, octetsOut, responseTaken, requestTaken}
+use Rattle.bench.specs.Handing.{isFresh, lengthAt, safeHoldsAt, releasesAt, isLastAt, unlessSafe, allowed, partAt, handRules, handedTo, handedOut}
+use Rattle.bench.specs.History.{handsOn, octetsIn, octetsOut, responseAdmitted, requestAdmitted}
 use Rattle.bench.proofs.Index.{placed-same}
 use Rattle.bench.proofs.HandedOn as handing
 
@@ -46,29 +46,29 @@ pub record Hands (port : ℕ) (p : Port) (e : End) (mark : Mark) (spdu safe out 
   pub told : handedTo port p e mark spdu safe (length out) ≡ record { answer = Taken; octets = length part }
   pub written : handedOut port p e mark spdu safe out ≡ part ++ drop (length part) out
 
--- ---- the mark that a port's own call gave stands for itself
+-- ---- the mark that a port's own call gave is allowed
 
-mark-stands : (e : End) (p : Port) (spdu : List ℕ) (row : Bool) → (markOf row (releasesAt e p) ≡ Fresh → isLastAt e p spdu ≡ true)
-    → standsFor e p (markOf row (releasesAt e p)) spdu ≡ markOf row (releasesAt e p)
-mark-stands e p spdu row last = go (releasesAt e p) refl row last
+mark-allowed : (e : End) (p : Port) (spdu : List ℕ) (row : Bool) → (markOf row (releasesAt e p) ≡ Fresh → isLastAt e p spdu ≡ true)
+    → allowed e p (markOf row (releasesAt e p)) spdu ≡ markOf row (releasesAt e p)
+mark-allowed e p spdu row last = go (releasesAt e p) refl row last
   where
-    go : (r : Bool) → releasesAt e p ≡ r → (row : Bool) → (markOf row r ≡ Fresh → isLastAt e p spdu ≡ true) → standsFor e p (markOf row r) spdu ≡ markOf row r
+    go : (r : Bool) → releasesAt e p ≡ r → (row : Bool) → (markOf row r ≡ Fresh → isLastAt e p spdu ≡ true) → allowed e p (markOf row r) spdu ≡ markOf row r
     go false is row last = refl
     go true is false last = simp is
     go true is true last = simp (is, last refl)
 
--- ---- Whatever is told: octets of an SPDU go out only where the end releases, of the last SPDU that it took
+-- ---- Whatever is told: octets of an SPDU go out only where the end releases, of the last SPDU that it admitted
 
-not-fresh : (mark : Mark) (stands : Bool) → isFresh mark ≡ false → unlessSafe mark stands ≡ Fresh → ⊥
+not-fresh : (mark : Mark) (allowed : Bool) → isFresh mark ≡ false → unlessSafe mark allowed ≡ Fresh → ⊥
 not-fresh mark true h e = no (sym (ap isFresh e) ∙ h)
 not-fresh mark false h e = no (sym (ap isFresh e))
 
-stands-fresh : (stands : Bool) → unlessSafe Fresh stands ≡ Fresh → stands ≡ true
-stands-fresh true e = refl
-stands-fresh false e = no (sym (ap isFresh e))
+allowed-fresh : (allowed : Bool) → unlessSafe Fresh allowed ≡ Fresh → allowed ≡ true
+allowed-fresh true e = refl
+allowed-fresh false e = no (sym (ap isFresh e))
 
-pub only-released : (e : End) (p : Port) (mark : Mark) (spdu : List ℕ) → standsFor e p mark spdu ≡ Fresh → (releasesAt e p && isLastAt e p spdu) ≡ true
-only-released e p Fresh spdu h = stands-fresh (releasesAt e p && isLastAt e p spdu) h
+pub only-released : (e : End) (p : Port) (mark : Mark) (spdu : List ℕ) → allowed e p mark spdu ≡ Fresh → (releasesAt e p && isLastAt e p spdu) ≡ true
+only-released e p Fresh spdu h = allowed-fresh (releasesAt e p && isLastAt e p spdu) h
 only-released e p GoesOn spdu h = absurd (not-fresh GoesOn (releasesAt e p) refl h)
 only-released e p Safe spdu h = no (sym (ap isFresh h))
 only-released e p Nothing spdu h = no (sym (ap isFresh h))
@@ -115,7 +115,7 @@ module _ (port : ℕ) (known : outside 1 8 port ≡ false) (p : Port) (runs : p 
     part-at : image.handedOn mark mode spdu safe ≡ part → partAt e p mark spdu safe ≡ part
     part-at part-is =
         ap (λ (m : Mark). image.handedOn m mode spdu safe)
-        (ap (λ (m : Mark). standsFor e p m spdu) is ∙ mark-stands e p spdu row (λ f. fresh (is ∙ f) .0) ∙ sym is)
+        (ap (λ (m : Mark). allowed e p m spdu) is ∙ mark-allowed e p spdu row (λ f. fresh (is ∙ f) .0) ∙ sym is)
         ∙ part-is
 
     hands : safeHoldsAt e (p .setting .params) safe ≡ true → image.handedOn mark mode spdu safe ≡ part → length part ≤ length out
@@ -146,23 +146,23 @@ module _ (port : ℕ) (p : Port) (at : ℕ) where
       let m = p .live .master in
       let count : masters.stepOf m w (happening.Response at f) .master .carried ≡ f .«DCount_i» =
       response-kept m w at f (record { previous-is = refl; carried-is = refl; awaited-is = refl }) .carried-is
-      ∙ ap (λ (t : Bool). cond t (f .«DCount_i») (m .carried)) (r .taken) in
+      ∙ ap (λ (t : Bool). cond t (f .«DCount_i») (m .carried)) (r .admitted) in
       simp (r .signature, r .port) (eq-eqb _ _ (sym count))
 
   -- an SPDU as FS-Device likewise
   last-request : (q : Request) → stepOf p (happening.Request at q) .reply .device ≡ Fresh
       → (q .«signature_holds» && q .«port_holds» && eqb (q .MCount) (stepOf p (happening.Request at q) .port .live .device .MCount)) ≡ true
-  unfolding stepOf stored said turnOf deviceSpecs.FreshBy deviceSpecs.takenBy
+  unfolding stepOf stored said turnOf deviceSpecs.FreshBy deviceSpecs.admittedBy
   last-request q e =
       let r = handing.device-fresh-only p (happening.Request at q) e .0 in
       let d = p .live .device in
       let count : devices.stepOf d w (happening.Request at q) .device .MCount ≡ q .MCount =
-      step-count d w (d .MCount) (happening.Request at q) refl ∙ ap (λ (t : Bool). cond t (q .MCount) (d .MCount)) (r .taken) in
+      step-count d w (d .MCount) (happening.Request at q) refl ∙ ap (λ (t : Bool). cond t (q .MCount) (d .MCount)) (r .admitted) in
       simp (r .signature, r .port) (eq-eqb _ _ (sym count))
 
   pub response-handed : (spdu safe out : List ℕ) → isTaken (answerBy Taken (calls.responseRules port (p .setting) (length spdu) safe)) ≡ true
       → let r = calls.responseAt port p at spdu safe in
-      let part = handsOn (r .reply .«master_releases») (responseTaken p at (responseBy byBits (p .setting .params) spdu)) (processOf (p .setting .params .«FSP_ProtMode») spdu) (octetsIn p) in
+      let part = handsOn (r .reply .«master_releases») (responseAdmitted p at (responseBy byBits (p .setting .params) spdu)) (processOf (p .setting .params .«FSP_ProtMode») spdu) (octetsIn p) in
       length part ≤ length out → Hands port (r .port) end.Master (r .reply .master) spdu safe out part
   unfolding stepOf stored said turnOf
   response-handed spdu safe out t =
@@ -172,7 +172,7 @@ module _ (port : ℕ) (p : Port) (at : ℕ) where
       let kept : Kept rules = taken-exactly rules tt tt .0 t in
       let handed = handing.response-hands-on port p at spdu safe t in
       rw (handing.asked-taken p at (answerBy Taken rules) h t)
-      (λ fits. hands port (kept .each 0) (stepOf p h .port) (not-false (p .setting .running) (kept .each 1)) end.Master (responseTaken p at f)
+      (λ fits. hands port (kept .each 0) (stepOf p h .port) (not-false (p .setting .running) (kept .each 1)) end.Master (responseAdmitted p at f)
       (handing.response-mark (p .live .master) w at f) spdu safe out _
       (λ e. (last-response f e, not-false (eqb (length spdu) (p .setting .params .SPDUInLength)) (kept .each 2)))
       (not-false (calls.safeInHold (p .setting .params) safe) (kept .each 3))
@@ -180,7 +180,7 @@ module _ (port : ℕ) (p : Port) (at : ℕ) where
 
   pub request-handed : (spdu safe out : List ℕ) → isTaken (answerBy Taken (calls.requestRules port (p .setting) (length spdu) safe)) ≡ true
       → let r = calls.requestAt port p at spdu safe in
-      let part = handsOn (r .reply .«device_releases») (requestTaken p at (requestBy byBits (p .setting .params) spdu)) (processOf (p .setting .params .«FSP_ProtMode») spdu) (octetsOut p) in
+      let part = handsOn (r .reply .«device_releases») (requestAdmitted p at (requestBy byBits (p .setting .params) spdu)) (processOf (p .setting .params .«FSP_ProtMode») spdu) (octetsOut p) in
       length part ≤ length out → Hands port (r .port) end.Device (r .reply .device) spdu safe out part
   unfolding stepOf stored said turnOf
   request-handed spdu safe out t =
@@ -190,7 +190,7 @@ module _ (port : ℕ) (p : Port) (at : ℕ) where
       let kept : Kept rules = taken-exactly rules tt tt .0 t in
       let handed = handing.request-hands-on port p at spdu safe t in
       rw (handing.asked-taken p at (answerBy Taken rules) h t)
-      (λ fits. hands port (kept .each 0) (stepOf p h .port) (not-false (p .setting .running) (kept .each 1)) end.Device (requestTaken p at q)
+      (λ fits. hands port (kept .each 0) (stepOf p h .port) (not-false (p .setting .running) (kept .each 1)) end.Device (requestAdmitted p at q)
       (handing.request-mark (p .live .device) w at q) spdu safe out _
       (λ e. (last-request q e, not-false (eqb (length spdu) (p .setting .params .SPDUOutLength)) (kept .each 2)))
       (not-false (calls.safeOutHold (p .setting .params) safe) (kept .each 3))
@@ -201,7 +201,7 @@ module _ (port : ℕ) (p : Port) (at : ℕ) where
     pub clock-handed-in : let r = calls.clockAt port p at safeIn safeOut in
         let part = handsOn (r .reply .«master_releases») false [] (octetsIn p) in
         length part ≤ length out → Hands port (r .port) end.Master (r .reply .master) [] safeIn out part
-    unfolding stepOf stored said turnOf masters.stepOf masters.watched masters.quiet masterSpecs.FreshBy
+    unfolding stepOf stored said turnOf masters.stepOf masters.clocked masters.quiet masterSpecs.FreshBy
     clock-handed-in =
         let rules = calls.clockRules port (p .setting) safeIn safeOut in
         let h = happening.Clock at in
@@ -216,7 +216,7 @@ module _ (port : ℕ) (p : Port) (at : ℕ) where
     pub clock-handed-out : let r = calls.clockAt port p at safeIn safeOut in
         let part = handsOn (r .reply .«device_releases») false [] (octetsOut p) in
         length part ≤ length out → Hands port (r .port) end.Device (r .reply .device) [] safeOut out part
-    unfolding stepOf stored said turnOf devices.stepOf devices.watched devices.quiet deviceSpecs.FreshBy
+    unfolding stepOf stored said turnOf devices.stepOf devices.clocked devices.quiet deviceSpecs.FreshBy
     clock-handed-out =
         let rules = calls.clockRules port (p .setting) safeIn safeOut in
         let h = happening.Clock at in

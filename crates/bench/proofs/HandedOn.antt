@@ -37,36 +37,36 @@ use Rattle.fs_device.proofs.Release as deviceRelease
 use Rattle.bench.specs.declared.Port.{Port}
 use Rattle.bench.specs.Ports.{turnOf, stored, said, stepOf, silent}
 use Rattle.bench.specs.Calls.{responseRules, requestRules, clockRules, operatorRules, safeInHold, safeOutHold, asked, done, responseAt, requestAt, clockAt, operatorAt}
-use Rattle.bench.specs.History.{handsOn, octetsIn, octetsOut, responseTaken, requestTaken}
+use Rattle.bench.specs.History.{handsOn, octetsIn, octetsOut, responseAdmitted, requestAdmitted}
 use Rattle.answer.proofs.Exact.{taken-exactly}
 
 -- ---- the mark of each end
 
-received-mark : (m : Master) (r : masterRow.Row) (at : ℕ) (f : Response) → masters.received m r at f .mark ≡ markOf (table38.isTaken m f) (masters.received m r at f .master .released)
+received-mark : (m : Master) (r : masterRow.Row) (at : ℕ) (f : Response) → masters.received m r at f .mark ≡ markOf (table38.isAdmitted m f) (masters.received m r at f .master .released)
 unfolding masters.received masters.arrived masters.quiet
-received-mark m r at f = go (table38.isTaken m f)
+received-mark m r at f = go (table38.isAdmitted m f)
   where
     go : (b : Bool) → cond b (masters.arrived m r at f (table38.checked m f)) (masters.quiet m r (table38.isOld m f)) .mark ≡ markOf b (cond b (masters.arrived m r at f (table38.checked m f)) (masters.quiet m r (table38.isOld m f)) .master .released)
     go true = refl
     go false = refl
 
-pub response-mark : (m : Master) (w at : ℕ) (f : Response) → masters.stepOf m w (happening.Response at f) .mark ≡ markOf (table38.isTaken (masters.judged m w at) f) (masters.stepOf m w (happening.Response at f) .master .released)
+pub response-mark : (m : Master) (w at : ℕ) (f : Response) → masters.stepOf m w (happening.Response at f) .mark ≡ markOf (table38.isAdmitted (masters.watched m w at) f) (masters.stepOf m w (happening.Response at f) .master .released)
 unfolding masters.stepOf
-response-mark m w at f = received-mark (masters.judged m w at) (table38.watchdogRow m w at) at f
+response-mark m w at f = received-mark (masters.watched m w at) (table38.watchdogRow m w at) at f
 
-requested-mark : (d : Device) (r : deviceRow.Row) (at : ℕ) (q : Request) → devices.received d r at q .mark ≡ markOf (table40.isTaken d q) (devices.received d r at q .device .released)
+requested-mark : (d : Device) (r : deviceRow.Row) (at : ℕ) (q : Request) → devices.received d r at q .mark ≡ markOf (table40.isAdmitted d q) (devices.received d r at q .device .released)
 unfolding devices.received devices.arrived devices.quiet
-requested-mark d r at q = go (table40.isTaken d q)
+requested-mark d r at q = go (table40.isAdmitted d q)
   where
     go : (b : Bool) → cond b (devices.arrived d r at q (table40.checked d q)) (devices.quiet d r (table40.isOld d q)) .mark ≡ markOf b (cond b (devices.arrived d r at q (table40.checked d q)) (devices.quiet d r (table40.isOld d q)) .device .released)
     go true = refl
     go false = refl
 
-pub request-mark : (d : Device) (w at : ℕ) (q : Request) → devices.stepOf d w (happening.Request at q) .mark ≡ markOf (table40.isTaken (devices.judged d w at) q) (devices.stepOf d w (happening.Request at q) .device .released)
+pub request-mark : (d : Device) (w at : ℕ) (q : Request) → devices.stepOf d w (happening.Request at q) .mark ≡ markOf (table40.isAdmitted (devices.watched d w at) q) (devices.stepOf d w (happening.Request at q) .device .released)
 unfolding devices.stepOf
-request-mark d w at q = requested-mark (devices.judged d w at) (table40.watchdogRow d w at) at q
+request-mark d w at q = requested-mark (devices.watched d w at) (table40.watchdogRow d w at) at q
 
--- ---- the part that a mark stands for
+-- ---- the part that a mark hands on
 
 part : (row releases : Bool) (mode : ℕ) (spdu safe : List ℕ) → image.handedOn (markOf row releases) mode spdu safe ≡ cond releases (cond row (processOf mode spdu) []) safe
 part true true mode spdu safe = refl
@@ -102,27 +102,27 @@ module _ (port : ℕ) (p : Port) (at : ℕ) where
   pub response-hands-on : (spdu safe : List ℕ) → isTaken (answerBy Taken (responseRules port (p .setting) (length spdu) safe)) ≡ true
       → let r = responseAt port p at spdu safe .reply in
       let f = responseBy byBits (p .setting .params) spdu in
-      handed (r .master) spdu safe ≡ handsOn (r .«master_releases») (responseTaken p at f) (processOf (p .setting .params .«FSP_ProtMode») spdu) (octetsIn p)
+      handed (r .master) spdu safe ≡ handsOn (r .«master_releases») (responseAdmitted p at f) (processOf (p .setting .params .«FSP_ProtMode») spdu) (octetsIn p)
   unfolding stepOf stored said turnOf
   response-hands-on spdu safe t =
       let f = responseBy byBits (p .setting .params) spdu in
       let rules = responseRules port (p .setting) (length spdu) safe in
       let kept : Kept rules = taken-exactly rules tt tt .0 t in
       rw (asked-taken p at (answerBy Taken rules) (happening.Response at f) t)
-      (hands (responseTaken p at f) (stepOf p (happening.Response at f) .reply .«master_releases») (p .setting .params .«FSP_ProtMode») (p .setting .params .SPDUInLength) spdu safe (response-mark (p .live .master) (p .setting .params .«FSP_WatchdogTime») at f) (not-false (safeInHold (p .setting .params) safe) (kept .each 3)))
+      (hands (responseAdmitted p at f) (stepOf p (happening.Response at f) .reply .«master_releases») (p .setting .params .«FSP_ProtMode») (p .setting .params .SPDUInLength) spdu safe (response-mark (p .live .master) (p .setting .params .«FSP_WatchdogTime») at f) (not-false (safeInHold (p .setting .params) safe) (kept .each 3)))
 
   -- an SPDU as FS-Device
   pub request-hands-on : (spdu safe : List ℕ) → isTaken (answerBy Taken (requestRules port (p .setting) (length spdu) safe)) ≡ true
       → let r = requestAt port p at spdu safe .reply in
       let q = requestBy byBits (p .setting .params) spdu in
-      handed (r .device) spdu safe ≡ handsOn (r .«device_releases») (requestTaken p at q) (processOf (p .setting .params .«FSP_ProtMode») spdu) (octetsOut p)
+      handed (r .device) spdu safe ≡ handsOn (r .«device_releases») (requestAdmitted p at q) (processOf (p .setting .params .«FSP_ProtMode») spdu) (octetsOut p)
   unfolding stepOf stored said turnOf
   request-hands-on spdu safe t =
       let q = requestBy byBits (p .setting .params) spdu in
       let rules = requestRules port (p .setting) (length spdu) safe in
       let kept : Kept rules = taken-exactly rules tt tt .0 t in
       rw (asked-taken p at (answerBy Taken rules) (happening.Request at q) t)
-      (hands (requestTaken p at q) (stepOf p (happening.Request at q) .reply .«device_releases») (p .setting .params .«FSP_ProtMode») (p .setting .params .SPDUOutLength) spdu safe (request-mark (p .live .device) (p .setting .params .«FSP_WatchdogTime») at q) (not-false (safeOutHold (p .setting .params) safe) (kept .each 3)))
+      (hands (requestAdmitted p at q) (stepOf p (happening.Request at q) .reply .«device_releases») (p .setting .params .«FSP_ProtMode») (p .setting .params .SPDUOutLength) spdu safe (request-mark (p .live .device) (p .setting .params .«FSP_WatchdogTime») at q) (not-false (safeOutHold (p .setting .params) safe) (kept .each 3)))
 
   -- a clock reading, for both ends
   module _ (safeIn safeOut : List ℕ) (t : isTaken (answerBy Taken (clockRules port (p .setting) safeIn safeOut)) ≡ true) where
@@ -132,13 +132,13 @@ module _ (port : ℕ) (p : Port) (at : ℕ) where
         not-false (safeInHold (p .setting .params) safeIn && safeOutHold (p .setting .params) safeOut) (kept .each 2)
 
     pub clock-hands-on-in : let r = clockAt port p at safeIn safeOut .reply in handed (r .master) [] safeIn ≡ handsOn (r .«master_releases») false [] (octetsIn p)
-    unfolding stepOf stored said turnOf masters.stepOf masters.watched masters.quiet
+    unfolding stepOf stored said turnOf masters.stepOf masters.clocked masters.quiet
     clock-hands-on-in =
         rw (asked-taken p at (answerBy Taken (clockRules port (p .setting) safeIn safeOut)) (happening.Clock at) t)
         (hands false (stepOf p (happening.Clock at) .reply .«master_releases») (p .setting .params .«FSP_ProtMode») (p .setting .params .SPDUInLength) [] safeIn refl (and-left (safeInHold (p .setting .params) safeIn) (safeOutHold (p .setting .params) safeOut) both-hold))
 
     pub clock-hands-on-out : let r = clockAt port p at safeIn safeOut .reply in handed (r .device) [] safeOut ≡ handsOn (r .«device_releases») false [] (octetsOut p)
-    unfolding stepOf stored said turnOf devices.stepOf devices.watched devices.quiet
+    unfolding stepOf stored said turnOf devices.stepOf devices.clocked devices.quiet
     clock-hands-on-out =
         rw (asked-taken p at (answerBy Taken (clockRules port (p .setting) safeIn safeOut)) (happening.Clock at) t)
         (hands false (stepOf p (happening.Clock at) .reply .«device_releases») (p .setting .params .«FSP_ProtMode») (p .setting .params .SPDUOutLength) [] safeOut refl (and-right (safeInHold (p .setting .params) safeIn) (safeOutHold (p .setting .params) safeOut) both-hold))
@@ -166,7 +166,7 @@ pub master-fresh-only : (p : Port) (h : Happening) → stepOf p h .reply .master
 unfolding stepOf stored said turnOf
 master-fresh-only p h e = masterRelease.fresh-only (p .live .master) (p .setting .params .«FSP_WatchdogTime») h e
 
-pub master-fresh-if : (p : Port) (at : ℕ) (f : Response) → masterSpecs.Releases (masters.judged (p .live .master) (p .setting .params .«FSP_WatchdogTime») at) f → stepOf p (happening.Response at f) .reply .master ≡ Fresh
+pub master-fresh-if : (p : Port) (at : ℕ) (f : Response) → masterSpecs.Releases (masters.watched (p .live .master) (p .setting .params .«FSP_WatchdogTime») at) f → stepOf p (happening.Response at f) .reply .master ≡ Fresh
 unfolding stepOf stored said turnOf
 master-fresh-if p at f r = masterRelease.fresh-if (p .live .master) (p .setting .params .«FSP_WatchdogTime») at f r
 
@@ -175,6 +175,6 @@ pub device-fresh-only : (p : Port) (h : Happening) → stepOf p h .reply .device
 unfolding stepOf stored said turnOf
 device-fresh-only p h e = deviceRelease.fresh-only (p .live .device) (p .setting .params .«FSP_WatchdogTime») h e
 
-pub device-fresh-if : (p : Port) (at : ℕ) (q : Request) → deviceSpecs.Releases (devices.judged (p .live .device) (p .setting .params .«FSP_WatchdogTime») at) q → stepOf p (happening.Request at q) .reply .device ≡ Fresh
+pub device-fresh-if : (p : Port) (at : ℕ) (q : Request) → deviceSpecs.Releases (devices.watched (p .live .device) (p .setting .params .«FSP_WatchdogTime») at) q → stepOf p (happening.Request at q) .reply .device ≡ Fresh
 unfolding stepOf stored said turnOf
 device-fresh-if p at q r = deviceRelease.fresh-if (p .live .device) (p .setting .params .«FSP_WatchdogTime») at q r

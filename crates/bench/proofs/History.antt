@@ -25,33 +25,33 @@ use Rattle.fs_device.specs.History.{deviceAfter}
 use Rattle.histogram.specs.declared.Histogram.{Histogram}
 use Rattle.histogram.specs.Samples.{none}
 use Rattle.histogram.proofs.Counting.{cleared-holds}
-use Rattle.samples.specs.Tallied.{movedOf, stepped}
+use Rattle.samples.specs.Tallied.{masterTurnOf, stepped}
 use Rattle.samples.specs.Samples.{samples, histogramAfter}
 use Rattle.samples.proofs.Counted.{samples-within, samples-held, tallied-parts}
 use Rattle.bench.specs.declared.Port.{Port}
 use Rattle.bench.specs.Ports.{histogramOf, newPort, acceptedPort, portAt, turnOf, stored, said, stepOf}
-use Rattle.bench.specs.History.{Call, SetParameters, ReceiveResponse, ReceiveRequest, Clock, Operator, WithoutReading, portOf, rulesOf, answerOf, after, history, Since, never, since, goesOn, extended, sinceBlock, StandsSince, Stands}
+use Rattle.bench.specs.History.{Call, SetParameters, ReceiveResponse, ReceiveRequest, Clock, Operator, WithoutReading, addressed, rulesOf, answerOf, after, history, Since, never, since, goesOn, extended, sinceBlock, MatchesSince, Matches}
 use Rattle.bench.proofs.Index.{new-at}
 use Rattle.bench.proofs.Answers.{answer-is, exactly, refused-same}
 use Rattle.bench.proofs.AtPort.{eight, takenAt, taken-at, other-at}
 
 -- ---- one happening
 
-module _ (p : Port) (at : ℕ) (params : Params) (past : List Happening) (s : StandsSince p at params past) (h : Happening) where
+module _ (p : Port) (at : ℕ) (params : Params) (past : List Happening) (s : MatchesSince p at params past) (h : Happening) where
   watchdog-is : p .setting .params .«FSP_WatchdogTime» ≡ params .«FSP_WatchdogTime»
   watchdog-is = ap (λ (q : Params). q .«FSP_WatchdogTime») (s .parameters)
 
   histogram-is : histogramOf (stepOf p h .port) ≡ histogramAfter at (params .«FSP_WatchdogTime») (h ∷ past)
   unfolding stepOf stored said turnOf histogramAfter
   histogram-is =
-      let m = movedOf (p .live .master) (p .setting .params .«FSP_WatchdogTime») h in
+      let m = masterTurnOf (p .live .master) (p .setting .params .«FSP_WatchdogTime») h in
       sym (tallied-parts (p .live .totals) (p .bins) (p .setting .params .«FSP_WatchdogTime») (m .«passes_anew») (m .t))
       ∙ ap (λ (k : Histogram). stepped k (p .live .master) (p .setting .params .«FSP_WatchdogTime») h) (s .histogram)
       ∙ ap₂ (λ (m : Master) (w : ℕ). stepped (histogramAfter at (params .«FSP_WatchdogTime») past) m w h) (s .master) watchdog-is
 
-  step-stands : StandsSince (stepOf p h .port) at params (h ∷ past)
+  step-matches : MatchesSince (stepOf p h .port) at params (h ∷ past)
   unfolding stepOf stored said turnOf masterAfter deviceAfter
-  step-stands = record {
+  step-matches = record {
     running = s .running;
     parameters = s .parameters;
     master = ap₂ (λ (m : Master) (w : ℕ). masters.stepOf m w h .master) (s .master) watchdog-is;
@@ -64,19 +64,19 @@ module _ (p : Port) (at : ℕ) (params : Params) (past : List Happening) (s : St
 
 -- ---- one call that is not refused
 
-goes-stands : (p : Port) (h : Params → Happening) (s : Since) → p .setting .running ≡ true → Stands p s → Stands (stepOf p (h (p .setting .params)) .port) (goesOn s h)
-unfolding Stands goesOn newPort
-goes-stands p h never r z = let e : true ≡ false = sym r ∙ ap (λ (q : Port). q .setting .running) z in no e
-goes-stands p h (since at params past) r z =
-    rw (ap h (z .parameters)) (step-stands p at params past z (h params))
+goes-matches : (p : Port) (h : Params → Happening) (s : Since) → p .setting .running ≡ true → Matches p s → Matches (stepOf p (h (p .setting .params)) .port) (goesOn s h)
+unfolding Matches goesOn newPort
+goes-matches p h never r z = let e : true ≡ false = sym r ∙ ap (λ (q : Port). q .setting .running) z in no e
+goes-matches p h (since at params past) r z =
+    rw (ap h (z .parameters)) (step-matches p at params past z (h params))
 
 small-watchdog : (octets : List ℕ) (port : ℕ) (p : Port) (at : ℕ) → Kept (rulesOf p (SetParameters port at octets)) → paramsOf octets .«FSP_WatchdogTime» ≤ 65535
 unfolding rulesOf
 small-watchdog octets port p at k = let w = paramsOf octets .«FSP_WatchdogTime» in leb-true w 65535 (and-right (leb 1 w) (leb w 65535) (not-false (leb 1 w && leb w 65535) (k .each 14)))
 
-taken-stands : (p : Port) (s : Since) (c : Call) → Kept (rulesOf p c) → Stands p s → Stands (takenAt p c) (extended s c)
-unfolding takenAt extended rulesOf Stands acceptedPort masterAfter deviceAfter samples histogramAfter
-taken-stands p s (SetParameters port at octets) k z = record {
+taken-matches : (p : Port) (s : Since) (c : Call) → Kept (rulesOf p c) → Matches p s → Matches (takenAt p c) (extended s c)
+unfolding takenAt extended rulesOf Matches acceptedPort masterAfter deviceAfter samples histogramAfter
+taken-matches p s (SetParameters port at octets) k z = record {
   running = refl;
   parameters = refl;
   master = refl;
@@ -86,29 +86,29 @@ taken-stands p s (SetParameters port at octets) k z = record {
   within = none;
   small = small-watchdog octets port p at k;
 }
-taken-stands p s (ReceiveResponse port at spdu safe) k z = goes-stands p (λ q. happening.Response at (responseBy byBits q spdu)) s (not-false (p .setting .running) (k .each 1)) z
-taken-stands p s (ReceiveRequest port at spdu safe) k z = goes-stands p (λ q. happening.Request at (requestBy byBits q spdu)) s (not-false (p .setting .running) (k .each 1)) z
-taken-stands p s (Clock port at safeIn safeOut) k z = goes-stands p (λ q. happening.Clock at) s (not-false (p .setting .running) (k .each 1)) z
-taken-stands p s (Operator port at «setSD_C» «ChFAck_C» safe) k z = goes-stands p (λ q. happening.Operator at «setSD_C» «ChFAck_C») s (not-false (p .setting .running) (k .each 1)) z
-taken-stands p s (WithoutReading port act) k z = z
+taken-matches p s (ReceiveResponse port at spdu safe) k z = goes-matches p (λ q. happening.Response at (responseBy byBits q spdu)) s (not-false (p .setting .running) (k .each 1)) z
+taken-matches p s (ReceiveRequest port at spdu safe) k z = goes-matches p (λ q. happening.Request at (requestBy byBits q spdu)) s (not-false (p .setting .running) (k .each 1)) z
+taken-matches p s (Clock port at safeIn safeOut) k z = goes-matches p (λ q. happening.Clock at) s (not-false (p .setting .running) (k .each 1)) z
+taken-matches p s (Operator port at «setSD_C» «ChFAck_C» safe) k z = goes-matches p (λ q. happening.Operator at «setSD_C» «ChFAck_C») s (not-false (p .setting .running) (k .each 1)) z
+taken-matches p s (WithoutReading port act) k z = z
 
 -- ---- every history
 
 module _ (q : ℕ) (known : outside 1 8 q ≡ false) where
-  call-stands : (past : List Call) (c : Call) → portOf c ≡ q → isTaken (answerOf (history past) c) ≡ true → Stands (portAt (history past) q) (sinceBlock q past) → Stands (portAt (after (history past) c) q) (extended (sinceBlock q past) c)
-  call-stands past c z t s =
+  call-matches : (past : List Call) (c : Call) → addressed c ≡ q → isTaken (answerOf (history past) c) ≡ true → Matches (portAt (history past) q) (sinceBlock q past) → Matches (portAt (after (history past) c) q) (extended (sinceBlock q past) c)
+  call-matches past c z t s =
       let b = history past in
       let kept : Kept (rulesOf (portAt b q) c) = exactly (portAt b q) c .0 .0 (sym (ap isTaken (answer-is b c ∙ ap (λ (n : ℕ). answerBy Taken (rulesOf (portAt b n) c)) z)) ∙ t) in
       let later : portAt (after b c) q ≡ takenAt (portAt b q) c = rw z at (taken-at b (eight past) c (rw z known) t) in
-      rw later (taken-stands (portAt b q) (sinceBlock q past) c kept s)
+      rw later (taken-matches (portAt b q) (sinceBlock q past) c kept s)
 
   -- Demand 2: bins, total, sum, lowest, highest and both ends are those of the calls since the last accepted block.
-  pub stands : (past : List Call) → Stands (portAt (history past) q) (sinceBlock q past)
-  unfolding history sinceBlock Stands
-  stands [] = new-at q
-  stands (c ∷ past) = go (eqb (portOf c) q) refl (isTaken (answerOf (history past) c)) refl (stands past)
+  pub matches : (past : List Call) → Matches (portAt (history past) q) (sinceBlock q past)
+  unfolding history sinceBlock Matches
+  matches [] = new-at q
+  matches (c ∷ past) = go (eqb (addressed c) q) refl (isTaken (answerOf (history past) c)) refl (matches past)
     where
-      go : (same : Bool) → eqb (portOf c) q ≡ same → (t : Bool) → isTaken (answerOf (history past) c) ≡ t → Stands (portAt (history past) q) (sinceBlock q past) → Stands (portAt (after (history past) c) q) (cond (same && t) (extended (sinceBlock q past) c) (sinceBlock q past))
+      go : (same : Bool) → eqb (addressed c) q ≡ same → (t : Bool) → isTaken (answerOf (history past) c) ≡ t → Matches (portAt (history past) q) (sinceBlock q past) → Matches (portAt (after (history past) c) q) (cond (same && t) (extended (sinceBlock q past) c) (sinceBlock q past))
       go false e t f s = rw (other-at (history past) (eight past) q known c e) s
       go true e false f s = rw (refused-same (history past) c f) s
-      go true e true f s = call-stands past c (eqb-true (portOf c) q e) f s
+      go true e true f s = call-matches past c (eqb-true (addressed c) q e) f s

@@ -27,9 +27,9 @@ use Rattle.scl.specs.declared.Happening.the-variants as happening
 use Rattle.scl.proofs.Cases.{cond-case, no}
 use Rattle.fs_master.specs.declared.Master.{Master}
 use Rattle.fs_master.specs.Table38 as table38
-use Rattle.fs_master.specs.History.{masterAfter, judgedIn, Previous, previousBy, lastTaken}
+use Rattle.fs_master.specs.History.{masterAfter, watchedIn, Previous, previousBy, lastAdmitted}
 use Rattle.fs_master.proofs.Counts.{count-below, always-held}
-use Rattle.fs_master.proofs.Taken.{previous-is}
+use Rattle.fs_master.proofs.Admitted.{previous-is}
 use Rattle.fs_device.specs.declared.Device.{Device}
 use Rattle.fs_device.specs.declared.Outcome.{Outcome}
 use Rattle.fs_device.specs.declared.Row.{Row}
@@ -42,9 +42,9 @@ use Rattle.histogram.proofs.Counting.{nothing-wraps}
 use Rattle.bench.specs.declared.Port.{Port}
 use Rattle.bench.specs.Ports.{newPort, portAt}
 use Rattle.bench.specs.Calls.{placed}
-use Rattle.bench.specs.History.{Call, SetParameters, ReceiveResponse, ReceiveRequest, Clock, Operator, WithoutReading, portOf, answerOf, history, Since, never, since, goesOn, extended, sinceBlock, Stands, Arising, blockIn, OctetsIn, no-call, one-more}
+use Rattle.bench.specs.History.{Call, SetParameters, ReceiveResponse, ReceiveRequest, Clock, Operator, WithoutReading, addressed, answerOf, history, Since, never, since, goesOn, extended, sinceBlock, Matches, Arising, blockIn, OctetsIn, no-call, one-more}
 use Rattle.bench.proofs.Answers.{block-answer}
-use Rattle.bench.proofs.History.{stands}
+use Rattle.bench.proofs.History.{matches}
 
 -- ---- what is read of an SPDU
 
@@ -83,20 +83,20 @@ module _ (at w : ℕ) where
 
   carried-by : (m : Master) (h : Happening) (r : Previous) → Read h → r .carried ≤ 7 → previousBy m h r .carried ≤ 7
   unfolding previousBy Read
-  carried-by m (happening.Response at f) r h c = cond-case (λ (z : Previous). z .carried ≤ 7) (table38.isTaken m f) (λ _. h) (λ _. c)
+  carried-by m (happening.Response at f) r h c = cond-case (λ (z : Previous). z .carried ≤ 7) (table38.isAdmitted m f) (λ _. h) (λ _. c)
   carried-by m (happening.Request at q) r h c = c
   carried-by m (happening.Clock at) r h c = c
   carried-by m (happening.Operator at «setSD_C» «ChFAck_C») r h c = c
 
-  carried-always : {past : List Happening} → AllRead past → lastTaken at w past .carried ≤ 7
-  unfolding lastTaken
+  carried-always : {past : List Happening} → AllRead past → lastAdmitted at w past .carried ≤ 7
+  unfolding lastAdmitted
   carried-always none = omega arith
-  carried-always (more {h} {past} r rest) = carried-by (judgedIn at w past h) h (lastTaken at w past) r (carried-always rest)
+  carried-always (more {h} {past} r rest) = carried-by (watchedIn at w past h) h (lastAdmitted at w past) r (carried-always rest)
 
 -- ---- the FS-Device
 
 record Bounded (d : Device) : Type 0 where
-  taken-count : d .MCount ≤ 7
+  admitted-count : d .MCount ≤ 7
   mirrored : d .«DCount_i» ≤ 7
   cycles : d .SDcycles ≤ 3
   errors : d .CommErrCount ≤ 1
@@ -116,45 +116,45 @@ cleared-1 n h = cond-case (λ (k : ℕ). k ≤ 1) (eqb n 1) (λ _. omega arith) 
 acted-bounded : (d : Device) (r : Row) (at : ℕ) (setSD CommErr : Bool) → Bounded d → Bounded (table40.acted d r at setSD CommErr)
 unfolding table40.acted table40.t22 table40.t25 table40.t28 table40.t29 table40.t30t31
 acted-bounded d Stay at setSD CommErr b = b
-acted-bounded d T22 at setSD CommErr b = record { taken-count = b .taken-count; mirrored = inverted-below (d .MCount); cycles = omega (arith, b .cycles); errors = b .errors; timeouts = b .timeouts }
-acted-bounded d T25 at setSD CommErr b = record { taken-count = b .taken-count; mirrored = inverted-below (d .MCount); cycles = omega arith; errors = omega arith; timeouts = b .timeouts }
-acted-bounded d T28 at setSD CommErr b = record { taken-count = b .taken-count; mirrored = inverted-below (d .MCount); cycles = b .cycles; errors = b .errors; timeouts = b .timeouts }
+acted-bounded d T22 at setSD CommErr b = record { admitted-count = b .admitted-count; mirrored = inverted-below (d .MCount); cycles = omega (arith, b .cycles); errors = b .errors; timeouts = b .timeouts }
+acted-bounded d T25 at setSD CommErr b = record { admitted-count = b .admitted-count; mirrored = inverted-below (d .MCount); cycles = omega arith; errors = omega arith; timeouts = b .timeouts }
+acted-bounded d T28 at setSD CommErr b = record { admitted-count = b .admitted-count; mirrored = inverted-below (d .MCount); cycles = b .cycles; errors = b .errors; timeouts = b .timeouts }
 acted-bounded d T29 at setSD CommErr b = record {
-  taken-count = b .taken-count;
+  admitted-count = b .admitted-count;
   mirrored = inverted-below (d .MCount);
   cycles = at-most-3 CommErr (d .SDcycles) (b .cycles);
   errors = cleared-1 (cond CommErr 1 (d .CommErrCount)) (at-most-1 CommErr (d .CommErrCount) (b .errors));
   timeouts = cleared-1 (d .TimeoutCount) (b .timeouts);
 }
-acted-bounded d T30 at setSD CommErr b = record { taken-count = b .taken-count; mirrored = inverted-below (d .MCount); cycles = omega arith; errors = b .errors; timeouts = omega arith }
-acted-bounded d T31 at setSD CommErr b = record { taken-count = b .taken-count; mirrored = inverted-below (d .MCount); cycles = omega arith; errors = b .errors; timeouts = omega arith }
+acted-bounded d T30 at setSD CommErr b = record { admitted-count = b .admitted-count; mirrored = inverted-below (d .MCount); cycles = omega arith; errors = b .errors; timeouts = omega arith }
+acted-bounded d T31 at setSD CommErr b = record { admitted-count = b .admitted-count; mirrored = inverted-below (d .MCount); cycles = omega arith; errors = b .errors; timeouts = omega arith }
 
-judged-bounded : (d : Device) (w at : ℕ) → Bounded d → Bounded (devices.judged d w at)
-unfolding devices.judged
-judged-bounded d w at b = acted-bounded d (table40.watchdogRow d w at) at false false b
+watched-bounded : (d : Device) (w at : ℕ) → Bounded d → Bounded (devices.watched d w at)
+unfolding devices.watched
+watched-bounded d w at b = acted-bounded d (table40.watchdogRow d w at) at false false b
 
-taken-bounded : (d : Device) (q : Request) → q .MCount ≤ 7 → Bounded d → Bounded (table40.taken d q)
-unfolding table40.taken
-taken-bounded d q h b = record { taken-count = h; mirrored = b .mirrored; cycles = b .cycles; errors = b .errors; timeouts = b .timeouts }
+taken-bounded : (d : Device) (q : Request) → q .MCount ≤ 7 → Bounded d → Bounded (table40.admitted d q)
+unfolding table40.admitted
+taken-bounded d q h b = record { admitted-count = h; mirrored = b .mirrored; cycles = b .cycles; errors = b .errors; timeouts = b .timeouts }
 
 received-bounded : (d : Device) (r : Row) (at : ℕ) (q : Request) → q .MCount ≤ 7 → Bounded d → Bounded (devices.received d r at q .device)
 unfolding devices.received devices.arrived devices.quiet
 received-bounded d r at q h b =
-    cond-case (λ (o : Outcome). Bounded (o .device)) (table40.isTaken d q)
-    (λ _. acted-bounded (table40.taken d q) (table40.arrivalRow d (isFailure (table40.checked d q))) at (q .setSD) (isFailure (table40.checked d q)) (taken-bounded d q h b))
+    cond-case (λ (o : Outcome). Bounded (o .device)) (table40.isAdmitted d q)
+    (λ _. acted-bounded (table40.admitted d q) (table40.arrivalRow d (isFailure (table40.checked d q))) at (q .setSD) (isFailure (table40.checked d q)) (taken-bounded d q h b))
     (λ _. b)
 
 step-bounded : (d : Device) (w : ℕ) (h : Happening) → Read h → Bounded d → Bounded (devices.stepOf d w h .device)
-unfolding devices.stepOf devices.watched devices.quiet Read
-step-bounded d w (happening.Request at q) r b = received-bounded (devices.judged d w at) (table40.watchdogRow d w at) at q r (judged-bounded d w at b)
-step-bounded d w (happening.Response at f) r b = judged-bounded d w at b
-step-bounded d w (happening.Clock at) r b = judged-bounded d w at b
-step-bounded d w (happening.Operator at «setSD_C» «ChFAck_C») r b = judged-bounded d w at b
+unfolding devices.stepOf devices.clocked devices.quiet Read
+step-bounded d w (happening.Request at q) r b = received-bounded (devices.watched d w at) (table40.watchdogRow d w at) at q r (watched-bounded d w at b)
+step-bounded d w (happening.Response at f) r b = watched-bounded d w at b
+step-bounded d w (happening.Clock at) r b = watched-bounded d w at b
+step-bounded d w (happening.Operator at «setSD_C» «ChFAck_C») r b = watched-bounded d w at b
 
 module _ (at w : ℕ) where
   bounded-always : {past : List Happening} → AllRead past → Bounded (deviceAfter at w past)
   unfolding deviceAfter
-  bounded-always none = record { taken-count = omega arith; mirrored = omega arith; cycles = omega arith; errors = omega arith; timeouts = omega arith }
+  bounded-always none = record { admitted-count = omega arith; mirrored = omega arith; cycles = omega arith; errors = omega arith; timeouts = omega arith }
   bounded-always (more {h} {past} r rest) = step-bounded (deviceAfter at w past) w h r (bounded-always rest)
 
 -- ---- since the last accepted block
@@ -175,8 +175,8 @@ goes-sound q (since at params past) h r z = record { taken-block = z .taken-bloc
 block-sound : (octets : List ℕ) (port : ℕ) → ((i : ℕ) → getD octets i 0 < 256) → isTaken (judged octets port .answer) ≡ true → Sound port (paramsOf octets) []
 block-sound octets port o t = record { taken-block = rw (taken-params octets port t) at (accepted octets port o t); all-read = none }
 
-extended-sound : (q : ℕ) (past : List Call) (c : Call) (s : Since) → portOf c ≡ q → isTaken (answerOf (history past) c) ≡ true → ((i : ℕ) → getD (blockIn c) i 0 < 256) → Sounds q s → Sounds q (extended s c)
-unfolding extended blockIn Sounds portOf answerOf placed Read
+extended-sound : (q : ℕ) (past : List Call) (c : Call) (s : Since) → addressed c ≡ q → isTaken (answerOf (history past) c) ≡ true → ((i : ℕ) → getD (blockIn c) i 0 < 256) → Sounds q s → Sounds q (extended s c)
+unfolding extended blockIn Sounds addressed answerOf placed Read
 extended-sound q past (SetParameters port at octets) s e t o z =
     rw (sym e) (block-sound octets port o (sym (ap isTaken (block-answer (portAt (history past) port) at (judged octets port))) ∙ t))
 extended-sound q past (ReceiveResponse port at spdu safe) s e t o z = goes-sound q s (λ p. happening.Response at (responseBy byBits p spdu)) (λ p. response-read p spdu) z
@@ -188,15 +188,15 @@ extended-sound q past (WithoutReading port act) s e t o z = z
 sounds : (q : ℕ) (past : List Call) → OctetsIn past → Sounds q (sinceBlock q past)
 unfolding sinceBlock Sounds
 sounds q [] no-call = refl
-sounds q (c ∷ past) (one-more o rest) = go (eqb (portOf c) q) refl (isTaken (answerOf (history past) c)) refl (sounds q past rest)
+sounds q (c ∷ past) (one-more o rest) = go (eqb (addressed c) q) refl (isTaken (answerOf (history past) c)) refl (sounds q past rest)
   where
-    go : (same : Bool) → eqb (portOf c) q ≡ same → (t : Bool) → isTaken (answerOf (history past) c) ≡ t → Sounds q (sinceBlock q past) → Sounds q (cond (same && t) (extended (sinceBlock q past) c) (sinceBlock q past))
+    go : (same : Bool) → eqb (addressed c) q ≡ same → (t : Bool) → isTaken (answerOf (history past) c) ≡ t → Sounds q (sinceBlock q past) → Sounds q (cond (same && t) (extended (sinceBlock q past) c) (sinceBlock q past))
     go false e t f z = z
     go true e false f z = z
-    go true e true f z = extended-sound q past c (sinceBlock q past) (eqb-true (portOf c) q e) f o z
+    go true e true f z = extended-sound q past c (sinceBlock q past) (eqb-true (addressed c) q e) f o z
 
-arises : (q : ℕ) (p : Port) (s : Since) → p .setting .running ≡ true → Stands p s → Sounds q s → Arising q p
-unfolding Stands Sounds newPort
+arises : (q : ℕ) (p : Port) (s : Since) → p .setting .running ≡ true → Matches p s → Sounds q s → Arising q p
+unfolding Matches Sounds newPort
 arises q p never r z y = let e : true ≡ false = sym r ∙ ap (λ (n : Port). n .setting .running) z in no e
 arises q p (since at params past) r z y =
     let w = params .«FSP_WatchdogTime» in
@@ -207,9 +207,9 @@ arises q p (since at params past) r z y =
       master = rw (z .master) (always-held at w past);
       count = rw (z .master) (count-always at w past);
       carried = rw (z .master) (rw (k .carried-is) (carried-always at w (y .all-read)));
-      awaited = rw (z .master) (rw (k .awaited-is) (inverted-below (lastTaken at w past .stood)));
+      awaited = rw (z .master) (rw (k .awaited-is) (inverted-below (lastAdmitted at w past .MCount)));
       device = rw (z .device) (waits-always at w past);
-      taken-count = rw (z .device) (b .taken-count);
+      admitted-count = rw (z .device) (b .admitted-count);
       mirrored = rw (z .device) (b .mirrored);
       cycles = rw (z .device) (b .cycles);
       errors = rw (z .device) (b .errors);
@@ -220,4 +220,4 @@ arises q p (since at params past) r z y =
 
 -- A port that runs, after every history of octets.
 pub arising : (q : ℕ) → outside 1 8 q ≡ false → (past : List Call) → OctetsIn past → portAt (history past) q .setting .running ≡ true → Arising q (portAt (history past) q)
-arising q known past o r = arises q (portAt (history past) q) (sinceBlock q past) r (stands q known past) (sounds q past o)
+arising q known past o r = arises q (portAt (history past) q) (sinceBlock q past) r (matches q known past) (sounds q past o)

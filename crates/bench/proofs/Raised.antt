@@ -10,7 +10,7 @@ use Rattle.histogram.specs.declared.Totals.{Totals}
 use Rattle.histogram.specs.declared.Sampled.{Sampled}
 use Rattle.histogram.specs.Samples.{binCount}
 use Rattle.histogram.proofs.Samples.{bin-below}
-use Rattle.samples.specs.Tallied.{movedOf, talliedBy}
+use Rattle.samples.specs.Tallied.{masterTurnOf, talliedBy}
 use Rattle.bench.specs.declared.Setting.{Setting}
 use Rattle.bench.specs.declared.Live.{Live}
 use Rattle.bench.specs.declared.Turned.{Turned}
@@ -25,7 +25,7 @@ raised-below : (s : Setting) (l : Live) (h : Happening) → turnOf s l h .counts
 unfolding turnOf
 raised-below s l h e =
     let w = s .params .«FSP_WatchdogTime» in
-    let m = movedOf (l .master) w h in
+    let m = masterTurnOf (l .master) w h in
     bin-below w (m .t) (leb-true (m .t) w (in-time (l .totals) w (m .«passes_anew») (m .t) e))
 
 pub below : (s : Setting) (l : Live) (h : Happening) {t : Turned} → t ≡ turnOf s l h → t .counts ≡ true → t .bin < binCount

@@ -37,7 +37,7 @@ use Rattle.bench.specs.Calls.{callRules}
 use Rattle.bench.specs.Images.{composeAnswer, composed, buildAnswer, responseOut}
 use Rattle.bench.specs.History.{Call, history, since, sinceBlock, octetsOut}
 use Rattle.bench.proofs.Taken.{both-kept}
-use Rattle.bench.proofs.Release.{standing}
+use Rattle.bench.proofs.Release.{matching}
 
 module _ (q : ℕ) (p : Port) where
   abbrev params : Params
@@ -162,7 +162,7 @@ module _ (q : ℕ) (known : outside 1 8 q ≡ false) (calls : List Call) (at : �
 
   safe-set : port .live .master .setSD ≡ true
   safe-set =
-      ap (λ (m : Master). m .setSD) (standing q known calls at params past block .master)
+      ap (λ (m : Master). m .setSD) (matching q known calls at params past block .master)
       ∙ sends-safe at (params .«FSP_WatchdogTime») past faulty .0
 
   pub safe-while-faulty : (process other octets : List ℕ) → isTaken (composeAnswer q port process other octets) ≡ true

@@ -29,7 +29,7 @@ use Rattle.bench.specs.declared.Bins.{Bins}
 use Rattle.bench.specs.Ports.{newPort, histogramOf}
 use Rattle.bench.specs.Calls.{callRules}
 use Rattle.bench.specs.Shown.{seen, trendOf, binsOf, masterOf, deviceOf}
-use Rattle.bench.specs.History.{StandsSince}
+use Rattle.bench.specs.History.{MatchesSince}
 
 trend-by : (h : Histogram) → refused Taken (eqb (h .total) 0) NoSamples ≡ trends.trendOf h .answer
 unfolding trends.trendOf
@@ -59,7 +59,7 @@ refused-trend q p = go (isTaken answer) refl (eqb (p .live .totals .total) 0) re
     go true f true e r = rw e
     go true f false e r = no (sym f ∙ r)
 
-module _ (q : ℕ) (known : outside 1 8 q ≡ false) (p : Port) (at : ℕ) (params : Params) (past : List Happening) (s : StandsSince p at params past) where
+module _ (q : ℕ) (known : outside 1 8 q ≡ false) (p : Port) (at : ℕ) (params : Params) (past : List Happening) (s : MatchesSince p at params past) where
   shows : seen q p ≡ p
   unfolding seen
   shows = simp (known, s .running)

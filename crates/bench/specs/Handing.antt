@@ -32,7 +32,7 @@ abbrev pub releasesAt : End → Port → Bool
 releasesAt end.Master p = p .live .master .released
 releasesAt end.Device p = p .live .device .released
 
--- the SPDU holds, and its count is that of the last one that the end took
+-- the SPDU holds, and its count is that of the last one that the end admitted
 abbrev pub isLastResponse : Port → List ℕ → Bool
 isLastResponse p spdu =
     let f = responseBy byBits (p .setting .params) spdu in
@@ -47,18 +47,18 @@ abbrev pub isLastAt : End → Port → List ℕ → Bool
 isLastAt end.Master p spdu = isLastResponse p spdu
 isLastAt end.Device p spdu = isLastRequest p spdu
 
--- what a mark stands for: octets of an SPDU, and that release goes on, only where the end releases; else safe values
+-- what a mark may be: octets of an SPDU, and that release goes on, only where the end releases; else safe values
 abbrev pub unlessSafe : Mark → Bool → Mark
-unlessSafe mark stands = cond stands mark Safe
+unlessSafe mark allowed = cond allowed mark Safe
 
-abbrev pub standsFor : End → Port → Mark → List ℕ → Mark
-standsFor e p Fresh spdu = unlessSafe Fresh (releasesAt e p && isLastAt e p spdu)
-standsFor e p GoesOn spdu = unlessSafe GoesOn (releasesAt e p)
-standsFor e p Safe spdu = Safe
-standsFor e p Nothing spdu = Nothing
+abbrev pub allowed : End → Port → Mark → List ℕ → Mark
+allowed e p Fresh spdu = unlessSafe Fresh (releasesAt e p && isLastAt e p spdu)
+allowed e p GoesOn spdu = unlessSafe GoesOn (releasesAt e p)
+allowed e p Safe spdu = Safe
+allowed e p Nothing spdu = Nothing
 
 abbrev pub partAt : End → Port → Mark → List ℕ → List ℕ → List ℕ
-partAt e p mark spdu safe = image.handedOn (standsFor e p mark spdu) (p .setting .params .«FSP_ProtMode») spdu safe
+partAt e p mark spdu safe = image.handedOn (allowed e p mark spdu) (p .setting .params .«FSP_ProtMode») spdu safe
 
 abbrev pub isFresh : Mark → Bool
 isFresh Fresh = true

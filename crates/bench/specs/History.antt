@@ -30,7 +30,7 @@ use Rattle.fs_master.specs.History.{Held, masterAfter}
 use Rattle.fs_device.specs.Table40 as table40
 use Rattle.fs_device.specs.Calls as devices
 use Rattle.fs_device.specs.History as deviceSpecs
-use Rattle.histogram.specs.Samples.{binCount, Within, Holds, Fits}
+use Rattle.histogram.specs.Samples.{binCount, Within, CountsToLimit, Fits}
 use Rattle.samples.specs.Samples.{samples, histogramAfter}
 use Rattle.bench.specs.declared.Port.{Port}
 use Rattle.bench.specs.declared.End.{End}
@@ -64,13 +64,13 @@ pub data Call : Type 0 where
   WithoutReading : (port : ℕ) (act : NoReading) → Call
 
 -- the port addressed
-unfoldable pub portOf : Call → ℕ
-portOf (SetParameters port at octets) = port
-portOf (ReceiveResponse port at spdu safe) = port
-portOf (ReceiveRequest port at spdu safe) = port
-portOf (Clock port at safeIn safeOut) = port
-portOf (Operator port at «setSD_C» «ChFAck_C» safe) = port
-portOf (WithoutReading port act) = port
+unfoldable pub addressed : Call → ℕ
+addressed (SetParameters port at octets) = port
+addressed (ReceiveResponse port at spdu safe) = port
+addressed (ReceiveRequest port at spdu safe) = port
+addressed (Clock port at safeIn safeOut) = port
+addressed (Operator port at «setSD_C» «ChFAck_C» safe) = port
+addressed (WithoutReading port act) = port
 
 -- 01's table: the rules on a call in their order, p being the port addressed
 
@@ -132,7 +132,7 @@ history (c ∷ past) = after (history past) c
 -- the calls that address a port
 unfoldable pub addressing : ℕ → List Call → List Call
 addressing q [] = []
-addressing q (c ∷ past) = cond (eqb (portOf c) q) (c ∷ addressing q past) (addressing q past)
+addressing q (c ∷ past) = cond (eqb (addressed c) q) (c ∷ addressing q past) (addressing q past)
 
 -- ---- A port since its last accepted block
 
@@ -159,24 +159,24 @@ extended s (WithoutReading port act) = s
 unfoldable pub sinceBlock : ℕ → List Call → Since
 sinceBlock q [] = never
 sinceBlock q (c ∷ past) =
-    cond (eqb (portOf c) q && isTaken (answerOf (history past) c)) (extended (sinceBlock q past) c) (sinceBlock q past)
+    cond (eqb (addressed c) q && isTaken (answerOf (history past) c)) (extended (sinceBlock q past) c) (sinceBlock q past)
 
 -- ---- What a port holds
 
-pub record StandsSince (p : Port) (at : ℕ) (params : Params) (past : List Happening) : Type 0 where
+pub record MatchesSince (p : Port) (at : ℕ) (params : Params) (past : List Happening) : Type 0 where
   pub running : p .setting .running ≡ true
   pub parameters : p .setting .params ≡ params
   pub master : p .live .master ≡ masterAfter at (params .«FSP_WatchdogTime») past
   pub device : p .live .device ≡ deviceSpecs.deviceAfter at (params .«FSP_WatchdogTime») past
   pub histogram : histogramOf p ≡ histogramAfter at (params .«FSP_WatchdogTime») past
   -- bins, total, sum, lowest and highest are those of the samples, up to the freeze
-  pub counted : Holds (params .«FSP_WatchdogTime») (samples at (params .«FSP_WatchdogTime») past) (histogramOf p)
+  pub counted : CountsToLimit (params .«FSP_WatchdogTime») (samples at (params .«FSP_WatchdogTime») past) (histogramOf p)
   pub within : Within (params .«FSP_WatchdogTime») (samples at (params .«FSP_WatchdogTime») past)
   pub small : params .«FSP_WatchdogTime» ≤ 65535
 
-unfoldable pub Stands : Port → Since → Type 0
-Stands p never = p ≡ newPort
-Stands p (since at params past) = StandsSince p at params past
+unfoldable pub Matches : Port → Since → Type 0
+Matches p never = p ≡ newPort
+Matches p (since at params past) = MatchesSince p at params past
 
 -- ---- Values that never arise (a ProtMode of 7, a count of 9, a bin that wraps): what holds of a port that runs, of number q
 
@@ -188,7 +188,7 @@ pub record Arising (q : ℕ) (p : Port) : Type 0 where
   pub carried : p .live .master .carried ≤ 7
   pub awaited : p .live .master .awaited ≤ 7
   pub device : deviceSpecs.waits (p .live .device) ≡ true
-  pub taken-count : p .live .device .MCount ≤ 7
+  pub admitted-count : p .live .device .MCount ≤ 7
   pub mirrored : p .live .device .«DCount_i» ≤ 7
   pub cycles : p .live .device .SDcycles ≤ 3
   pub errors : p .live .device .CommErrCount ≤ 1
@@ -226,8 +226,8 @@ abbrev pub octetsOut : Port → ℕ
 octetsOut p = processOctets (p .setting .params .«FSP_ProtMode») (p .setting .params .SPDUOutLength)
 
 -- this call's SPDU led to a row, at the FS-Master and at the FS-Device
-abbrev pub responseTaken : Port → ℕ → Response → Bool
-responseTaken p at f = table38.isTaken (masters.judged (p .live .master) (p .setting .params .«FSP_WatchdogTime») at) f
+abbrev pub responseAdmitted : Port → ℕ → Response → Bool
+responseAdmitted p at f = table38.isAdmitted (masters.watched (p .live .master) (p .setting .params .«FSP_WatchdogTime») at) f
 
-abbrev pub requestTaken : Port → ℕ → Request → Bool
-requestTaken p at q = table40.isTaken (devices.judged (p .live .device) (p .setting .params .«FSP_WatchdogTime») at) q
+abbrev pub requestAdmitted : Port → ℕ → Request → Bool
+requestAdmitted p at q = table40.isAdmitted (devices.watched (p .live .device) (p .setting .params .«FSP_WatchdogTime») at) q

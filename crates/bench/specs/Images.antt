@@ -1,4 +1,4 @@
--- The calls on outgoing and incoming octets. They have no reading, judge no watchdog and change no state (R11). Assumes nothing.
+-- The calls on outgoing and incoming octets. They have no reading, look at no watchdog and change no state (R11). Assumes nothing.
 use Prim.Native.Nat.{ℕ}
 use mathlib.Core.Bool.{Bool, cond}
 use mathlib.Core.List.{List, []}

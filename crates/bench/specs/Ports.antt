@@ -16,7 +16,7 @@ use Rattle.fs_device.specs.Calls as devices
 use Rattle.histogram.specs.declared.Histogram.{Histogram}
 use Rattle.histogram.specs.Samples.{binCount, binOf}
 use Rattle.histogram.specs.Counted.{clearedOf, totalsOf, withBins, raisedIf}
-use Rattle.samples.specs.Tallied.{movedOf, talliedBy}
+use Rattle.samples.specs.Tallied.{masterTurnOf, talliedBy}
 use Rattle.bench.specs.declared.Setting.{Setting}
 use Rattle.bench.specs.declared.Live.{Live}
 use Rattle.bench.specs.declared.Port.{Port}
@@ -25,7 +25,7 @@ use Rattle.bench.specs.declared.Place.{Place}
 use Rattle.bench.specs.declared.Turned.{Turned}
 use Rattle.bench.specs.declared.Reply.{Reply}
 
--- the histogram of a port, whose totals move with the ends and whose bins stand apart
+-- the histogram of a port, whose totals change with the ends and whose bins stand apart
 abbrev pub histogramOf : Port → Histogram
 histogramOf p = withBins (p .live .totals) (p .bins)
 
@@ -94,7 +94,7 @@ noPort = record {
       awaited = 0;
       MTimer = 0;
       runs = false;
-      sample = 0;
+      start = 0;
       released = false;
     };
   };
@@ -109,15 +109,15 @@ placeOf port = record { index = cond (outside 1 8 port) 0 (port - 1); outside = 
 unfoldable pub portAt : Bench → ℕ → Port
 portAt b port = cond (outside 1 8 port) newPort (getD (b .ports) (port - 1) noPort)
 
--- the bench with another port of that number, the others as they stood
+-- the bench with another port of that number, the others as they were
 unfoldable pub withPort : Bench → ℕ → Port → Bench
 withPort b port p = cond (outside 1 8 port) b (record { ports = set (b .ports) (port - 1) p })
 
--- Every happening judges the watchdog of both ends, then what arrived goes to the end it is for (R11). A sample raises its bin.
+-- Every happening looks at the watchdog of both ends, then what arrived goes to the end it is for (R11). A sample raises its bin.
 unfoldable pub turnOf : Setting → Live → Happening → Turned
 turnOf s l h =
     let w = s .params .«FSP_WatchdogTime» in
-    let m = movedOf (l .master) w h in
+    let m = masterTurnOf (l .master) w h in
     let d = devices.stepOf (l .device) w h in
     let c = talliedBy (l .totals) w (m .«passes_anew») (m .t) in
     record {
@@ -128,7 +128,7 @@ turnOf s l h =
       device = d .mark;
     }
 
--- the port with what a turn moves
+-- the port with what a turn changes
 unfoldable pub stored : Port → Turned → Port
 stored p t = record { setting = p .setting; live = t .live; bins = raisedIf (t .counts) (p .bins) (t .bin) }
 

@@ -1,4 +1,4 @@
--- Method: the turn that nearly every record of a session takes: a response in time, by T4, that is a sample, at a port whose FS-Device stands. It is said here
+-- Method: the turn that nearly every record of a session takes: a response in time, by T4, that is a sample, at a port whose FS-Device is unchanged. It is said here
 -- as it is worked out; proofs/Regulars.antt has that it is `turnOf`. Assumes nothing.
 use Prim.Native.Nat.{ℕ}
 use mathlib.Core.Bool.{Bool, true, false, _&&_}
@@ -8,7 +8,7 @@ use Rattle.scl.specs.declared.Mark.the-variants.{Nothing}
 use Rattle.scl.specs.declared.Response.{Response}
 use Rattle.scl.specs.declared.Happening.{Happening}
 use Rattle.scl.specs.declared.Happening.the-variants as happening
-use Rattle.fs_master.specs.Table38.{taken, t4}
+use Rattle.fs_master.specs.Table38.{admitted, t4}
 use Rattle.fs_master.specs.Regular as masters
 use Rattle.fs_device.specs.Calls as devices
 use Rattle.histogram.specs.Samples.{binOf}
@@ -18,13 +18,13 @@ use Rattle.bench.specs.declared.Live.{Live}
 use Rattle.bench.specs.declared.Turned.{Turned}
 
 -- from the reading of the count that was sent
-abbrev pub timeOf : Live → ℕ → ℕ
-timeOf l at = elapsedOf at (l .master .sample)
+abbrev pub elapsedAt : Live → ℕ → ℕ
+elapsedAt l at = elapsedOf at (l .master .start)
 
 abbrev pub isRegularResponse : Setting → Live → ℕ → Response → Bool
 isRegularResponse s l at f =
     let w = s .params .«FSP_WatchdogTime» in
-    masters.isRegular (l .master) w at f && devices.stands (l .device) w (happening.Response at f) && talliedBy (l .totals) w true (timeOf l at) .counted
+    masters.isRegular (l .master) w at f && devices.unchanged (l .device) w (happening.Response at f) && talliedBy (l .totals) w true (elapsedAt l at) .counted
 
 unfoldable pub isRegular : Setting → Live → Happening → Bool
 isRegular s l (happening.Response at f) = isRegularResponse s l at f
@@ -35,17 +35,17 @@ isRegular s l (happening.Operator at «setSD_C» «ChFAck_C») = false
 abbrev pub regularResponse : Setting → Live → ℕ → Response → Turned
 regularResponse s l at f =
     let w = s .params .«FSP_WatchdogTime» in
-    let c = talliedBy (l .totals) w true (timeOf l at) in
-    let m = t4 (taken (l .master) f) at (f .SDset) in
+    let c = talliedBy (l .totals) w true (elapsedAt l at) in
+    let m = t4 (admitted (l .master) f) at (f .SDset) in
     record {
       live = record { totals = c .totals; device = l .device; master = m; unused = l .unused };
       counts = c .counted;
-      bin = binOf w (timeOf l at);
+      bin = binOf w (elapsedAt l at);
       master = markOf true (m .released);
       device = markOf false (l .device .released);
     }
 
--- nothing moves
+-- nothing changes
 abbrev pub still : Live → Turned
 still l = record { live = l; counts = false; bin = 0; master = Nothing; device = Nothing }
 

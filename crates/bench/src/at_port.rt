@@ -50,7 +50,7 @@ pub(crate) fn accepted_port(p: Port, params: Params, at: u32) -> Port
     }
 }
 
-// The port with what a turn moves.
+// The port with what a turn changes.
 pub(crate) fn stored(p: Port, turned: Turned) -> Port
     ensures { λ r. ⌜ r ≡ ports.stored p turned ⌝ }
 {

@@ -1,5 +1,5 @@
-// The turn that nearly every record of a session takes: a response in time, by T4, that is a sample, at a port whose FS-Device stands. It is
-// written apart, beside `turn`, for the compiler alone: a loop that tells it first stores what T4 and a sample move and keeps the rest where it
+// The turn that nearly every record of a session takes: a response in time, by T4, that is a sample, at a port whose FS-Device is unchanged. It is
+// written apart, beside `turn`, for the compiler alone: a loop that tells it first stores what T4 and a sample change and keeps the rest where it
 // is. proofs/Regulars.antt: it is what `turn` does.
 ghost use mathlib.Core.Path.{_≡_};
 ghost use Rattle.bench.specs.Regular as regulars;
@@ -15,9 +15,9 @@ fn is_regular_response(setting: Setting, live: Live, at: u32, f: Response) -> bo
 {
     let w = setting.params.FSP_WatchdogTime;
     let m = live.master;
-    let stands = fs_device::stands(live.device, w, Happening::Response(at, f));
-    let counts = samples::counts(live.totals, w, scl::elapsed(at, m.sample));
-    fs_master::is_regular(m, w, at, f) & stands & counts
+    let unchanged = fs_device::unchanged(live.device, w, Happening::Response(at, f));
+    let counts = samples::counts(live.totals, w, scl::elapsed(at, m.start));
+    fs_master::is_regular(m, w, at, f) & unchanged & counts
 }
 
 // Whether a happening makes such a turn.
@@ -37,7 +37,7 @@ fn regular_response(setting: Setting, live: Live, at: u32, f: Response) -> Turne
 {
     let w = setting.params.FSP_WatchdogTime;
     let m = live.master;
-    let t = scl::elapsed(at, m.sample);
+    let t = scl::elapsed(at, m.start);
     let counted = samples::tallied(live.totals, w, true, t);
     let totals = counted.totals;
     let device = live.device;

@@ -1,4 +1,4 @@
-// The ports of a bench in three columns, for whoever steps them many times: what a block moves, what a happening moves, the bins. A port that is
+// The ports of a bench in three columns, for whoever steps them many times: what a block changes, what a happening changes, the bins. A port that is
 // stored whole for each of its turns costs more than the rest of the turn.
 ghost use mathlib.Core.Path.{_≡_};
 ghost use Rattle.bench.specs.Columns as columns;

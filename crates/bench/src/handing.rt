@@ -1,5 +1,5 @@
 // What a call handed on, at one end of a port: by the mark of the call's reply, from the bench that the call returned and what was lent to the
-// call. None of these is believed: octets of an SPDU go out only where that bench shows that the end took it and releases.
+// call. None of these is believed: octets of an SPDU go out only where that bench shows that the end admitted it and releases.
 ghost use mathlib.Core.Path.{_≡_};
 ghost use lib.ListN.{length};
 ghost use Rattle.answer.specs.declared.Answer.the-variants as answers;
@@ -70,14 +70,14 @@ fn is_last_at(end: End, p: Port, spdu: &[u8]) -> bool
     }
 }
 
-fn unless_safe(mark: Mark, stands: bool) -> Mark
-    ensures { λ r. ⌜ r ≡ handing.unlessSafe mark stands ⌝ }
+fn unless_safe(mark: Mark, allowed: bool) -> Mark
+    ensures { λ r. ⌜ r ≡ handing.unlessSafe mark allowed ⌝ }
 {
-    if stands { mark } else { Mark::Safe }
+    if allowed { mark } else { Mark::Safe }
 }
 
-fn stands_for(end: End, p: Port, mark: Mark, spdu: &[u8]) -> Mark
-    ensures { λ r. ⌜ r ≡ handing.standsFor end p mark (now (spdu .entry)) ⌝ }
+fn allowed(end: End, p: Port, mark: Mark, spdu: &[u8]) -> Mark
+    ensures { λ r. ⌜ r ≡ handing.allowed end p mark (now (spdu .entry)) ⌝ }
 {
     let releases = releases_at(end, p);
     match mark {
@@ -107,8 +107,8 @@ fn safe_holds_at(end: End, params: Params, safe: &[u8]) -> bool
 fn part_at<'a>(end: End, p: Port, mark: Mark, spdu: &'a [u8], safe: &'a [u8]) -> &'a [u8]
     ensures { λ r. ⌜ now r ≡ handing.partAt end p mark (now (spdu .entry)) (now (safe .entry)) ⌝ }
 {
-    let stands = stands_for(end, p, mark, spdu);
-    spdu::handed_on(stands, p.setting.params.FSP_ProtMode, spdu, safe)
+    let allowed = allowed(end, p, mark, spdu);
+    spdu::handed_on(allowed, p.setting.params.FSP_ProtMode, spdu, safe)
 }
 
 // The part that was handed on, of the SPDU or of the safe values; empty in a refusal.

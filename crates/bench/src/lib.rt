@@ -55,7 +55,7 @@ pub use turns::turn;
 
 pub const PORT_COUNT: usize = 8;
 
-// What only an accepted block moves. `running`: parameters have been accepted. `unused` here and below stands where there would be padding: 0 in a new
+// What only an accepted block changes. `running`: parameters have been accepted. `unused` here and below stands where there would be padding: 0 in a new
 // bench, and no call touches it, so that two benches that are the same are so octet for octet.
 #[repr(C)]
 pub struct Setting {
@@ -64,7 +64,7 @@ pub struct Setting {
     pub unused: [u8; 7],
 }
 
-// What a happening moves: both ends, and all of the histogram but its bins.
+// What a happening changes: both ends, and all of the histogram but its bins.
 #[repr(C)]
 pub struct Live {
     pub device: Device,
@@ -97,13 +97,13 @@ pub struct Place {
 pub enum Act {
     // Nothing: it is refused.
     Refused(Answer),
-    // To take these parameters.
+    // To accept these parameters.
     Accepted(Params),
     // To let this happen.
     Happens(Happening),
 }
 
-// What a happening makes of a port: what it moves, whether it raises a bin and which, and what each end hands on.
+// What a happening makes of a port: what it changes, whether it raises a bin and which, and what each end hands on.
 pub struct Turned {
     pub live: Live,
     pub counts: bool,

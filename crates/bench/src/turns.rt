@@ -5,8 +5,8 @@ use crate::Live;
 use crate::Setting;
 use crate::Turned;
 use block::Params;
-use samples::move_master;
 use samples::tallied;
+use samples::turn_master;
 use scl::Happening;
 
 // What an accepted block makes of a setting, with these parameters; from the old one, as `begun`, so that what a block keeps would have its place.
@@ -47,13 +47,13 @@ pub fn turn(setting: Setting, live: Live, happening: Happening) -> Turned
     ensures { λ r. ⌜ r ≡ ports.turnOf setting live happening ⌝ }
 {
     let w = setting.params.FSP_WatchdogTime;
-    let moved = move_master(live.master, w, happening);
+    let turn = turn_master(live.master, w, happening);
     let stepped = fs_device::step(live.device, w, happening);
-    let counted = tallied(live.totals, w, moved.passes_anew, moved.t);
+    let counted = tallied(live.totals, w, turn.passes_anew, turn.t);
     let totals = counted.totals;
     let device = stepped.device;
-    let master = moved.master;
-    let master_mark = moved.mark;
+    let master = turn.master;
+    let master_mark = turn.mark;
     let device_mark = stepped.mark;
     Turned {
         live: Live {
@@ -63,7 +63,7 @@ pub fn turn(setting: Setting, live: Live, happening: Happening) -> Turned
             unused: live.unused,
         },
         counts: counted.counted,
-        bin: histogram::bin(w, moved.t),
+        bin: histogram::bin(w, turn.t),
         master: master_mark,
         device: device_mark,
     }

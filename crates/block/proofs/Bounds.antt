@@ -1,4 +1,4 @@
--- Parameters that are taken satisfy every bound that the layers above rest on. Assumes nothing.
+-- Accepted parameters satisfy every bound that the layers above rest on. Assumes nothing.
 use mathlib.Core.Path.{_≡_, refl, sym, ap, _∙_}
 use mathlib.Core.Logic.{_⊎_, inl, inr}
 use mathlib.Core.Bool.{Bool, true, false, not, _&&_, _||_, true≢false, and-eq-true-iff}
@@ -76,7 +76,7 @@ mode-known m h e f =
     (λ u. cases (leb m 51) (λ v. absurd (eqb-false m 51 (z .1) (omega (arith, leb→le m 51 v, nleb→lt m 50 u))))
     (λ v. let c : 96 < m = past 52 96 m (y .1) (omega (arith, nleb→lt m 51 v)) in absurd (omega (arith, past 97 255 m (x .1) (omega arith))))))
 
--- ---- what is taken is within its bounds
+-- ---- what is accepted is within its bounds
 pub accepted : (s : List ℕ) (port : ℕ) → Octets s → isTaken (judged s port .answer) ≡ true → Accepted port (judged s port .params)
 accepted s port octets e = rw (taken-params s port e) bounds
   where

@@ -1,4 +1,4 @@
--- 01, "The parameter block": what parameters that are taken satisfy. It follows from the rules (`accepted`), and the layers above rest on it.
+-- 01, "The parameter block": what accepted parameters satisfy. It follows from the rules (`accepted`), and the layers above rest on it.
 -- Assumes nothing.
 use Prim.Native.Nat.{ℕ, _+_, _-_, _*_, _≤_}
 use mathlib.Core.Path.{_≡_}
@@ -13,7 +13,7 @@ pub record SpduFits (protMode other length : ℕ) : Type 0 where
   pub safety : safetyOctets protMode ≤ length
   pub process : length - safetyOctets protMode ≤ mostProcessOctets protMode
 
--- parameters that are taken, of a block addressed to a port
+-- accepted parameters, of a block addressed to a port
 pub record Accepted (port : ℕ) (p : Params) : Type 0 where
   pub port-known : (1 ≤ port) × (port ≤ 8)
   pub port-carried : p .«FSP_Port» ≡ port

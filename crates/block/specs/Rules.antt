@@ -18,8 +18,8 @@ use Rattle.block.specs.declared.Judged.{Judged}
 use Rattle.block.specs.Table22.{paramsOf, blockOf, computed}
 
 -- the port addressed, and the block's size
-abbrev pub callRules : List ℕ → ℕ → List Rule
-callRules s port = rule (outside 1 8 port) NoPort ∷ rule (not (eqb (length s) 48)) BlockSize ∷ []
+abbrev pub sizeRules : List ℕ → ℕ → List Rule
+sizeRules s port = rule (outside 1 8 port) NoPort ∷ rule (not (eqb (length s) 48)) BlockSize ∷ []
 
 abbrev pub idRules : Block → List Rule
 idRules b = rule (not (eqb (b .ArgBlockID) 0x8001)) BlockId ∷ []
@@ -47,7 +47,7 @@ agreementRules b right port =
 
 -- all rules on the octets s, addressed to a port
 abbrev pub rulesOn : List ℕ → ℕ → List Rule
-rulesOn s port = callRules s port ++ (idRules (blockOf s) ++ (fieldRules (blockOf s) ++ agreementRules (blockOf s) (computed s) port))
+rulesOn s port = sizeRules s port ++ (idRules (blockOf s) ++ (fieldRules (blockOf s) ++ agreementRules (blockOf s) (computed s) port))
 
 -- no parameters: zeros
 abbrev pub noParams : Params

@@ -56,7 +56,7 @@ pub struct Block {
     pub signatures: Signatures,
 }
 
-// The answer, and the parameters of a block that is taken; of a refusal none.
+// The answer, and the parameters of a block that is accepted; of a refusal none.
 pub struct Judged {
     pub answer: Answer,
     pub params: Params,

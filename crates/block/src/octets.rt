@@ -1,4 +1,4 @@
-// A block of 48 octets, taken apart.
+// A block of 48 octets, read.
 ghost use mathlib.Core.Path.{_≡_};
 ghost use lib.ListN.{length};
 ghost use Prim.Native.Nat.{_+_, _≤_};

@@ -14,8 +14,8 @@ use Rattle.fs_device.specs.History as devices
 use Rattle.fs_device.proofs.Watchdog as deviceWatchdog
 use Rattle.bench.specs.declared.Port.{Port}
 use Rattle.bench.specs.Ports.{newPort, portAt}
-use Rattle.bench.specs.History.{Call, history, never, since, sinceBlock, Stands}
-use Rattle.bench.proofs.History.{stands}
+use Rattle.bench.specs.History.{Call, history, never, since, sinceBlock, Matches}
+use Rattle.bench.proofs.History.{matches}
 use Rattle.bench.proofs.Release as release
 use Rattle.bench.proofs.Showing as showing
 use Rattle.bench.proofs.Sent as sent
@@ -23,10 +23,10 @@ use Rattle.bench.proofs.HandedOn as handing
 use Rattle.claims.specs.Demand2.{PortHolds, Sends, HandsOn, Demand2}
 
 module _ (at w : ℕ) (past : List Happening) (h : Happening) (earlier : List Happening) (latest : past ≡ h ∷ earlier) (small : readingOf h < 2 ^ 32) where
-  master-in-time : masters.masterAfter at w past .released ≡ true → elapsedOf (readingOf h) (masters.lastTakenAt at w past) ≤ w
+  master-in-time : masters.masterAfter at w past .released ≡ true → elapsedOf (readingOf h) (masters.lastAdmittedAt at w past) ≤ w
   master-in-time e = rw latest (masterWatchdog.released-in-time at w earlier h small (rw latest at e))
 
-  device-in-time : devices.deviceAfter at w past .released ≡ true → elapsedOf (readingOf h) (devices.lastTakenAt at w past) ≤ w
+  device-in-time : devices.deviceAfter at w past .released ≡ true → elapsedOf (readingOf h) (devices.lastAdmittedAt at w past) ≤ w
   device-in-time e = rw latest (deviceWatchdog.released-in-time at w earlier h small (rw latest at e))
 
 module _ (q : ℕ) (known : outside 1 8 q ≡ false) (calls : List Call) where
@@ -34,7 +34,7 @@ module _ (q : ℕ) (known : outside 1 8 q ≡ false) (calls : List Call) where
   since-block at params past block =
       let p = portAt (history calls) q in
       let w = params .«FSP_WatchdogTime» in
-      let s = release.standing q known calls at params past block in
+      let s = release.matching q known calls at params past block in
       record {
         master = s .master;
         device = s .device;
@@ -51,8 +51,8 @@ module _ (q : ℕ) (known : outside 1 8 q ≡ false) (calls : List Call) where
       }
 
   before-block : sinceBlock q calls ≡ never → portAt (history calls) q ≡ newPort
-  unfolding Stands
-  before-block none = rw none at (stands q known calls)
+  unfolding Matches
+  before-block none = rw none at (matches q known calls)
 
 sends : (q : ℕ) (p : Port) → Sends q p
 sends q p = record {

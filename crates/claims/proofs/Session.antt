@@ -1,6 +1,6 @@
 -- The session, from the theorems of the crate session. Assumes nothing.
 use Rattle.lines.specs.Text.{numeral, refusalLine, summaryLine}
-use Rattle.session.proofs.Blocks as blocks
+use Rattle.session.proofs.Chunks as blocks
 use Rattle.session.proofs.Shown as shown
 use Rattle.session.proofs.Arises as arises
 use Rattle.claims.specs.Session.{Session}

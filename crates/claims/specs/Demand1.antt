@@ -19,11 +19,11 @@ use Rattle.bench.specs.declared.End.{End}
 use Rattle.bench.specs.Ports.{portAt}
 use Rattle.bench.specs.Images.{composeAnswer, composed, buildAnswer, responseOut, splitAnswer, spduPart, otherPart}
 use Rattle.bench.specs.Handing.{handedTo, handedOut}
-use Rattle.bench.specs.History.{Call, portOf, rulesOf, answerOf, after, history}
+use Rattle.bench.specs.History.{Call, addressed, rulesOf, answerOf, after, history}
 
 pub record Demand1 : Type 0 where
   -- "gets an answer": on any bench any call has one, by 01's rules for that call (`rulesOf`, in 01's order) at the port it addresses
-  pub answered : (b : Bench) (c : Call) → answerOf b c ≡ answerBy Taken (rulesOf (portAt b (portOf c)) c)
+  pub answered : (b : Bench) (c : Call) → answerOf b c ≡ answerBy Taken (rulesOf (portAt b (addressed c)) c)
   -- 01: "each is given exactly when its condition holds and no earlier one does"
   pub first-broken : (p : Port) (c : Call) (i : ℕ) → i < length (rulesOf p c) → (answerBy Taken (rulesOf p c) ≡ answerAt (rulesOf p c) i) ↔ First (rulesOf p c) i
   -- 01: "TAKEN: none below holds"
@@ -36,7 +36,7 @@ pub record Demand1 : Type 0 where
   pub unchanged : (b : Bench) (c : Call) → isTaken (answerOf b c) ≡ false → after b c ≡ b
   -- so that nothing that comes later tells whether the call was made
   pub left-out : (later : List Call) (c : Call) (past : List Call) → isTaken (answerOf (history past) c) ≡ false → history (later ++ c ∷ past) ≡ history (later ++ past)
-  -- "no buffer": an image that was to be composed, an SPDU that was to be built and a part that was to be copied out stay as they stood
+  -- "no buffer": an image that was to be composed, an SPDU that was to be built and a part that was to be copied out stay as they were
   pub image-unwritten : (port : ℕ) (p : Port) (process other octets : List ℕ) → isTaken (composeAnswer port p process other octets) ≡ false → composed port p process other octets ≡ octets
   pub spdu-unwritten : (port : ℕ) (p : Port) (process out : List ℕ) → isTaken (buildAnswer port p process out) ≡ false → responseOut port p process out ≡ out
   pub part-unwritten : (port : ℕ) (p : Port) (e : End) (mark : Mark) (spdu safe out : List ℕ) → isTaken (handedTo port p e mark spdu safe (length out) .answer) ≡ false → handedOut port p e mark spdu safe out ≡ out

@@ -35,7 +35,7 @@ use Rattle.bench.specs.Ports.{newPort, portAt, stepOf}
 use Rattle.bench.specs.Calls.{responseRules, requestRules, clockRules, operatorRules, responseAt, requestAt, clockAt, operatorAt}
 use Rattle.bench.specs.Images.{composeAnswer, composed, buildAnswer, responseOut}
 use Rattle.bench.specs.Shown.{trendOf, binsOf}
-use Rattle.bench.specs.History.{Call, history, never, since, sinceBlock, handsOn, octetsIn, octetsOut, responseTaken, requestTaken}
+use Rattle.bench.specs.History.{Call, history, never, since, sinceBlock, handsOn, octetsIn, octetsOut, responseAdmitted, requestAdmitted}
 
 -- the samples that count, "up to the freeze": the first 4,294,967,295
 abbrev pub counted : ℕ → Params → List Happening → List ℕ
@@ -50,13 +50,13 @@ pub record PortHolds (q : ℕ) (p : Port) (at : ℕ) (params : Params) (past : L
   pub passed-first : p .live .master .released ≡ true → masters.hasPassed at (params .«FSP_WatchdogTime») past ≡ true
   -- after a fault values return only once ChFAck_C followed ChFAckReq_S;
   pub acknowledged : p .live .master .released ≡ true → masters.fault at (params .«FSP_WatchdogTime») past ≡ masters.None
-  -- the FS-Device first takes SPDUs until SDcycles has run from 3 to 0;
+  -- the FS-Device first admits SPDUs until SDcycles has run from 3 to 0;
   pub cycles-first : p .live .device .released ≡ true → 3 < devices.passedSince at (params .«FSP_WatchdogTime») past
   -- and at neither end is a value released whose last SPDU lies more than W back
   pub master-in-time : (h : Happening) (earlier : List Happening) → past ≡ h ∷ earlier → readingOf h < 2 ^ 32 → p .live .master .released ≡ true
-      → elapsedOf (readingOf h) (masters.lastTakenAt at (params .«FSP_WatchdogTime») past) ≤ params .«FSP_WatchdogTime»
+      → elapsedOf (readingOf h) (masters.lastAdmittedAt at (params .«FSP_WatchdogTime») past) ≤ params .«FSP_WatchdogTime»
   pub device-in-time : (h : Happening) (earlier : List Happening) → past ≡ h ∷ earlier → readingOf h < 2 ^ 32 → p .live .device .released ≡ true
-      → elapsedOf (readingOf h) (devices.lastTakenAt at (params .«FSP_WatchdogTime») past) ≤ params .«FSP_WatchdogTime»
+      → elapsedOf (readingOf h) (devices.lastAdmittedAt at (params .«FSP_WatchdogTime») past) ≤ params .«FSP_WatchdogTime»
   -- 01: a sample's "elapsed t at most W"
   pub at-most-w : Within (params .«FSP_WatchdogTime») (samples at (params .«FSP_WatchdogTime») past)
   -- "bins hold exactly the responses that 01 counts since its last accepted block": bin i has as many as there are samples of bin i
@@ -86,11 +86,11 @@ pub record HandsOn (q : ℕ) (p : Port) (at : ℕ) : Type 0 where
   pub response : (spdu safe : List ℕ) → isTaken (answerBy Taken (responseRules q (p .setting) (length spdu) safe)) ≡ true
       → let r = responseAt q p at spdu safe .reply in
       let mode = p .setting .params .«FSP_ProtMode» in
-      image.handedOn (r .master) mode spdu safe ≡ handsOn (r .«master_releases») (responseTaken p at (responseBy byBits (p .setting .params) spdu)) (processOf mode spdu) (octetsIn p)
+      image.handedOn (r .master) mode spdu safe ≡ handsOn (r .«master_releases») (responseAdmitted p at (responseBy byBits (p .setting .params) spdu)) (processOf mode spdu) (octetsIn p)
   pub request : (spdu safe : List ℕ) → isTaken (answerBy Taken (requestRules q (p .setting) (length spdu) safe)) ≡ true
       → let r = requestAt q p at spdu safe .reply in
       let mode = p .setting .params .«FSP_ProtMode» in
-      image.handedOn (r .device) mode spdu safe ≡ handsOn (r .«device_releases») (requestTaken p at (requestBy byBits (p .setting .params) spdu)) (processOf mode spdu) (octetsOut p)
+      image.handedOn (r .device) mode spdu safe ≡ handsOn (r .«device_releases») (requestAdmitted p at (requestBy byBits (p .setting .params) spdu)) (processOf mode spdu) (octetsOut p)
   pub clock : (safeIn safeOut : List ℕ) → isTaken (answerBy Taken (clockRules q (p .setting) safeIn safeOut)) ≡ true
       → let r = clockAt q p at safeIn safeOut .reply in
       let mode = p .setting .params .«FSP_ProtMode» in

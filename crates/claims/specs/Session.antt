@@ -1,4 +1,4 @@
--- The session program (01): the text of every list of octets, fed in blocks of any sizes. What a session prints is `printed` (session specs/Run.antt);
+-- The session program (01): the text of every list of octets, fed in chunks of any sizes. What a session prints is `printed` (session specs/Run.antt);
 -- the contracts of `feed` and `finish` say that they make this text. No field here says that `portbench` reads all octets and writes all text: no contract
 -- can speak of what a read brings and a write takes; it is run and compared. Assumes nothing.
 use Prim.Native.Nat.{ℕ}
@@ -18,16 +18,16 @@ use Rattle.lines.specs.Text.{refusalLine, summaryLine, portLine}
 use Rattle.session.specs.declared.State.{State}
 use Rattle.session.specs.Text.{lineOfPort}
 use Rattle.session.specs.Run.{Entry, isWhole, callsOf, start, ran, closing, printed}
-use Rattle.session.specs.Blocks.{InBlocks, together}
+use Rattle.session.specs.Chunks.{InChunks, together}
 use Rattle.claims.specs.Demand2.{counted}
 
 pub record Session : Type 0 where
-  -- where the input has ended: blocks of any sizes print what all octets at once print, a record cut short being a 13
-  pub at-end : (blocks : List (List ℕ)) {st : State} {rest lines : List ℕ} → InBlocks blocks start [] st rest lines → isWhole (form rest) ≡ false
-      → printed (together blocks) ≡ lines ++ closing st (not (eqb (length rest) 0))
+  -- where the input has ended: chunks of any sizes print what all octets at once print, a record cut short being a 13
+  pub at-end : (chunks : List (List ℕ)) {st : State} {rest lines : List ℕ} → InChunks chunks start [] st rest lines → isWhole (form rest) ≡ false
+      → printed (together chunks) ≡ lines ++ closing st (not (eqb (length rest) 0))
   -- 01: "A 13 ends reading": where a bad record stands, nothing behind it matters
-  pub at-bad : (blocks : List (List ℕ)) (more : List ℕ) {st : State} {rest lines : List ℕ} → InBlocks blocks start [] st rest lines → form rest ≡ bad
-      → printed (together blocks ++ more) ≡ lines ++ closing st true
+  pub at-bad : (chunks : List (List ℕ)) (more : List ℕ) {st : State} {rest lines : List ℕ} → InChunks chunks start [] st rest lines → form rest ≡ bad
+      → printed (together chunks ++ more) ≡ lines ++ closing st true
   -- each record is a call on the bench, so that demands 1 and 2 hold of every session
   pub calls : (records : List Entry) → ran start records .bench ≡ history (callsOf [] records)
   -- 01: "for each running port .. `port P wd W n T` and, where T is above 0, ` lo L hi U`": number, lowest and highest of the samples that count

@@ -1,4 +1,4 @@
--- The number that a call's reply has for a mark stands for that mark. Assumes nothing.
+-- The number that a call's reply has for a mark is that mark's. Assumes nothing.
 use mathlib.Core.Path.{_≡_, refl}
 use Rattle.scl.specs.declared.Mark.{Mark}
 use Rattle.scl.specs.declared.Mark.the-variants.{Fresh, GoesOn, Safe, Nothing}

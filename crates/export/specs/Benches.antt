@@ -50,7 +50,7 @@ splitTold port p octets = record {
   unused = replicate 7 0;
 }
 
--- the mark that a number stands for (`markNumberOf`); a number that stands for none hands on nothing
+-- the mark of a number (`markNumberOf`); a number of none hands on nothing
 unfoldable pub markNumbered : ℕ → Mark
 markNumbered n = cond (eqb n 0) Fresh (cond (eqb n 1) GoesOn (cond (eqb n 2) Safe Nothing))
 

@@ -6,7 +6,7 @@ use Rattle.session.specs.declared.Stop.{Stop}
 use Rattle.session.specs.declared.Stop.the-variants.{Full, Bad, Cut, End}
 use Rattle.export.specs.declared.sessions.FedTold.{FedTold}
 
--- the numbers that stand for the stops outside
+-- the numbers of the stops outside
 abbrev pub stopNumberOf : Stop → ℕ
 stopNumberOf Full = 0
 stopNumberOf Bad = 1

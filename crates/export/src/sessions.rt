@@ -1,4 +1,4 @@
-// A session (crate session): records of octets, fed in blocks, and the lines of text. Why reading stopped is a number here.
+// A session (crate session): records of octets, fed in chunks, and the lines of text. Why reading stopped is a number here.
 ghost use mathlib.Core.Path.{_≡_};
 ghost use lib.ListN.{length};
 ghost use Rattle.session.specs.Run as runs;
@@ -49,7 +49,7 @@ pub extern "C" fn whakelouna_session_start() -> State
     session::start()
 }
 
-// Takes the whole records of a block, and writes their lines at the front of out.
+// Uses the whole records of a chunk, and writes their lines at the front of out.
 #[no_mangle]
 pub extern "C" fn whakelouna_session_feed(st: State, s: &[u8], out: &mut [u8]) -> FedTold
     ensures { λ r. ⌜ r ≡ told.fedTold (runs.fedOf st (now (s .entry)) (length (now (out .entry)))) ⌝ }

@@ -9,7 +9,7 @@ use lib.Dec.{eqb}
 use Rattle.scl.specs.Time.{elapsedOf}
 use Rattle.scl.specs.Readings.{lastReading}
 use Rattle.scl.specs.Counts.{inverted}
-use Rattle.scl.specs.Moved.{moved, movedHappening, movedPast, none, more}
+use Rattle.scl.specs.Delayed.{delayed, delayedHappening, delayedPast, none, more}
 use Rattle.scl.specs.declared.Happening.{Happening}
 use Rattle.scl.specs.declared.Happening.the-variants as happening
 use Rattle.scl.specs.declared.Request.{Request}
@@ -20,15 +20,15 @@ use Rattle.scl.specs.declared.Mark.the-variants.{Fresh, GoesOn, Safe}
 use Rattle.fs_device.specs.declared.Device.{Device}
 use Rattle.fs_device.specs.declared.Row.{Row}
 use Rattle.fs_device.specs.declared.Row.the-variants.{Stay, T22, T25, T28, T29, T30, T31}
-use Rattle.fs_device.specs.Table40.{watchdogRow, isTaken, checked, arrivalRow, taken, t22, t25, t28, t29, t30t31, acted, rowNumberOf}
-use Rattle.fs_device.specs.Calls.{judged, quiet, arrived, received, watched, stepOf, stands}
-use Rattle.fs_device.specs.History.{FreshBy, deviceAfter, passedSince, hadError, hadTimeout, hadErrorOrTimeout, cyclesSinceError, cyclesSinceTimeout, hasTaken, lastTaken, movedDevice, movedOutcome, lastRow, lastTakenAt}
+use Rattle.fs_device.specs.Table40.{watchdogRow, isAdmitted, checked, arrivalRow, admitted, t22, t25, t28, t29, t30t31, acted, rowNumberOf}
+use Rattle.fs_device.specs.Calls.{watched, quiet, arrived, received, clocked, stepOf, unchanged}
+use Rattle.fs_device.specs.History.{FreshBy, deviceAfter, passedSince, hadError, hadTimeout, hadErrorOrTimeout, cyclesSinceError, cyclesSinceTimeout, hasAdmitted, lastAdmitted, delayedDevice, delayedOutcome, lastRow, lastAdmittedAt}
 use Rattle.fs_device.proofs.Release as release
 use Rattle.fs_device.proofs.Faults as faults
 use Rattle.fs_device.proofs.Watchdog as watchdog
 use Rattle.fs_device.proofs.Cycles as cycles
 use Rattle.fs_device.proofs.Reports as reports
-use Rattle.fs_device.proofs.Moved as moving
+use Rattle.fs_device.proofs.Delayed as moving
 
 -- an SPDU with this MCount and setSD, whose signature and port number hold or not
 abbrev request : ℕ → Bool → Bool → Bool → Request
@@ -78,9 +78,9 @@ response at = happening.Response at (record {
 pub data Reports : Type 0 where
   bits : (SDset DCommErr DTimeout «setSD_DC» «ChFAckReq_DC» : ℕ) → Reports
 
--- what is seen of a call, with `stands` of the device before it, and `passedSince` and the reports after it
+-- what is seen of a call, with `unchanged` of the device before it, and `passedSince` and the reports after it
 pub data Seen : Type 0 where
-  seen : (watchdog arrival : Row) (check : Check) (mark : Mark) (old stands : Bool) (passed : ℕ) (reports : Reports) → Seen
+  seen : (watchdog arrival : Row) (check : Check) (mark : Mark) (old unchanged : Bool) (passed : ℕ) (reports : Reports) → Seen
 
 -- the block's reading; W is 100, and the clock wraps between the second call and the third
 abbrev block : ℕ
@@ -135,11 +135,11 @@ seenIn past [] = []
 seenIn past (h ∷ later) =
     let d = deviceAfter block 100 past in
     let o = stepOf d 100 h in
-    seen (o .watchdog) (o .arrival) (o .check) (o .mark) (o .old) (stands d 100 h) (passedSince block 100 (h ∷ past)) (reportsOf (o .device))
+    seen (o .watchdog) (o .arrival) (o .check) (o .mark) (o .old) (unchanged d 100 h) (passedSince block 100 (h ∷ past)) (reportsOf (o .device))
     ∷ seenIn (h ∷ past) later
 
 pub arises : (seenIn [] (map (λ row. row .0) worked) ≡ map (λ row. row .1) worked) × (seenIn [] (map (λ row. row .0) miscounted) ≡ map (λ row. row .1) miscounted)
-unfolding worked miscounted seenIn deviceAfter passedSince stands stepOf watched received arrived quiet judged acted watchdogRow isTaken checked arrivalRow taken t22 t25 t28 t29 t30t31 elapsedOf
+unfolding worked miscounted seenIn deviceAfter passedSince unchanged stepOf clocked received arrived quiet watched acted watchdogRow isAdmitted checked arrivalRow admitted t22 t25 t28 t29 t30t31 elapsedOf
 arises = (refl, refl)
 
 unfoldable pub upTo : ℕ → List Happening → List Happening → List Happening
@@ -154,24 +154,24 @@ pastBefore n = upTo n [] (map (λ row. row .0) worked)
 abbrev deviceBefore : ℕ → Device
 deviceBefore n = deviceAfter block 100 (pastBefore n)
 
--- the call that releases after the block, and the response that leaves the device as it stands
+-- the call that releases after the block, and the response that leaves the device as it is
 abbrev releasing : Happening
 releasing = happening.Request 44 (intact 3)
 
 abbrev beside : Happening
 beside = response 144
 
--- what the theorems' words come to: neither another end's SPDU nor a timeout moves the reading of the last SPDU taken; and the numbers of the rows
+-- what the theorems' words come to: neither another end's SPDU nor a timeout changes the reading of the last SPDU admitted; and the numbers of the rows
 -- outside are 000's
 pub record Words : Type 0 where
-  pub taken-at : lastTakenAt block 100 (pastBefore 8) ≡ 44
+  pub admitted-at : lastAdmittedAt block 100 (pastBefore 8) ≡ 44
   pub row-at : lastRow block 100 (pastBefore 20) ≡ 335
-  pub still-at : lastTakenAt block 100 (pastBefore 20) ≡ 234
+  pub still-at : lastAdmittedAt block 100 (pastBefore 20) ≡ 234
   pub numbers : map rowNumberOf (Stay ∷ T22 ∷ T25 ∷ T28 ∷ T29 ∷ T30 ∷ T31 ∷ []) ≡ 0 ∷ 22 ∷ 25 ∷ 28 ∷ 29 ∷ 30 ∷ 31 ∷ []
 
 pub words : Words
-unfolding worked upTo lastReading deviceAfter stepOf watched received arrived quiet judged acted watchdogRow isTaken checked arrivalRow taken t22 t25 t28 t29 t30t31 elapsedOf
-words = record { taken-at = refl; row-at = refl; still-at = refl; numbers = refl }
+unfolding worked upTo lastReading deviceAfter stepOf clocked received arrived quiet watched acted watchdogRow isAdmitted checked arrivalRow admitted t22 t25 t28 t29 t30t31 elapsedOf
+words = record { admitted-at = refl; row-at = refl; still-at = refl; numbers = refl }
 
 -- the theorems of these names, of calls of the history
 pub record Met : Type 0 where
@@ -182,24 +182,24 @@ pub record Met : Type 0 where
   pub after-error : 4 < passedSince block 100 (pastBefore 19)
   pub mirrored : deviceBefore 7 .«DCount_i» ≡ inverted (deviceBefore 7 .MCount)
   pub in-time : watchdogRow (deviceBefore 7) 100 144 ≡ Stay
-  pub stands-same : stepOf (deviceBefore 7) 100 beside .device ≡ deviceBefore 7
-  pub moved-step : stepOf (movedDevice 5 (deviceBefore 7)) 100 (movedHappening 5 beside) ≡ movedOutcome 5 (stepOf (deviceBefore 7) 100 beside)
-  pub moved-after : deviceAfter (moved 5 block) 100 (movedPast 5 (pastBefore 3)) ≡ movedDevice 5 (deviceBefore 3)
-  pub moved-call :
-      stepOf (deviceAfter (moved 5 block) 100 (movedPast 5 (pastBefore 3))) 100 (movedHappening 5 (happening.Request 14 (set 0)))
-      ≡ movedOutcome 5 (stepOf (deviceBefore 3) 100 (happening.Request 14 (set 0)))
-  pub taken-in-21 : isTaken (judged (deviceBefore 1) 100 4294967295) zeros ≡ not true
-  pub taken-in-24 : isTaken (judged (deviceBefore 3) 100 14) (set 0) ≡ (not false && not (eqb 0 (lastTaken block 100 (pastBefore 3))))
-  pub taken-in-26 : isTaken (judged (deviceBefore 11) 100 169) (intact 6) ≡ (not false && not (eqb 6 (lastTaken block 100 (pastBefore 11))))
-  pub discarded-zeros : stepOf (deviceBefore 1) 100 (happening.Request 4294967295 zeros) .device ≡ judged (deviceBefore 1) 100 4294967295
-  pub discarded-old : stepOf (deviceBefore 3) 100 (happening.Request 14 (set 0)) .device ≡ judged (deviceBefore 3) 100 14
+  pub unchanged-same : stepOf (deviceBefore 7) 100 beside .device ≡ deviceBefore 7
+  pub delayed-step : stepOf (delayedDevice 5 (deviceBefore 7)) 100 (delayedHappening 5 beside) ≡ delayedOutcome 5 (stepOf (deviceBefore 7) 100 beside)
+  pub delayed-after : deviceAfter (delayed 5 block) 100 (delayedPast 5 (pastBefore 3)) ≡ delayedDevice 5 (deviceBefore 3)
+  pub delayed-call :
+      stepOf (deviceAfter (delayed 5 block) 100 (delayedPast 5 (pastBefore 3))) 100 (delayedHappening 5 (happening.Request 14 (set 0)))
+      ≡ delayedOutcome 5 (stepOf (deviceBefore 3) 100 (happening.Request 14 (set 0)))
+  pub admitted-in-21 : isAdmitted (watched (deviceBefore 1) 100 4294967295) zeros ≡ not true
+  pub admitted-in-24 : isAdmitted (watched (deviceBefore 3) 100 14) (set 0) ≡ (not false && not (eqb 0 (lastAdmitted block 100 (pastBefore 3))))
+  pub admitted-in-26 : isAdmitted (watched (deviceBefore 11) 100 169) (intact 6) ≡ (not false && not (eqb 6 (lastAdmitted block 100 (pastBefore 11))))
+  pub discarded-zeros : stepOf (deviceBefore 1) 100 (happening.Request 4294967295 zeros) .device ≡ watched (deviceBefore 1) 100 4294967295
+  pub discarded-old : stepOf (deviceBefore 3) 100 (happening.Request 14 (set 0)) .device ≡ watched (deviceBefore 3) 100 14
   pub damaged-safe : let o = stepOf (deviceBefore 10) 100 (happening.Request 164 (damaged 6)) in (o .mark ≡ Safe) × (o .device .released ≡ false)
   pub late : deviceBefore 20 .released ≡ false
-  pub released-in-time : elapsedOf 144 (lastTakenAt block 100 (pastBefore 8)) ≤ 100
+  pub released-in-time : elapsedOf 144 (lastAdmittedAt block 100 (pastBefore 8)) ≤ 100
   pub released-sound :
       let d = deviceBefore 7 in
       (d .SDset ≡ false) × ((d .DCommErr ≡ false) × ((d .DTimeout ≡ false) × (d .«setSD_DC» ≡ false)))
-  pub mirrors-last : deviceBefore 20 .«DCount_i» ≡ inverted (lastTaken block 100 (pastBefore 20))
+  pub mirrors-last : deviceBefore 20 .«DCount_i» ≡ inverted (lastAdmitted block 100 (pastBefore 20))
   pub error-told : deviceBefore 11 .DCommErr ≡ true
   pub error-shown : deviceBefore 12 .DCommErr ≡ true
   pub error-over : (hadError block 100 (pastBefore 12) ≡ true) × (cyclesSinceError block 100 (pastBefore 12) ≤ 1)
@@ -208,26 +208,26 @@ pub record Met : Type 0 where
   pub timeout-over : (hadTimeout block 100 (pastBefore 23) ≡ true) × (cyclesSinceTimeout block 100 (pastBefore 23) ≤ 1)
 
 pub met : Met
-unfolding worked upTo deviceAfter hasTaken hadErrorOrTimeout hadError hadTimeout cyclesSinceError cyclesSinceTimeout stands stepOf watched received arrived quiet judged acted watchdogRow isTaken checked arrivalRow taken t22 t25 t28 t29 t30t31 elapsedOf
+unfolding worked upTo deviceAfter hasAdmitted hadErrorOrTimeout hadError hadTimeout cyclesSinceError cyclesSinceTimeout unchanged stepOf clocked received arrived quiet watched acted watchdogRow isAdmitted checked arrivalRow admitted t22 t25 t28 t29 t30t31 elapsedOf
 met = record {
   fresh-only = release.fresh-only (deviceBefore 6) 100 releasing refl;
   fresh-if =
       release.fresh-if (deviceBefore 6) 100 44 (intact 3)
-      (record { taken = refl; regular = refl; signature = refl; port = refl; count = refl; cycles = refl; not-set = refl });
+      (record { admitted = refl; not-in-26 = refl; signature = refl; port = refl; count = refl; cycles = refl; not-set = refl });
   cycles-first = release.cycles-first block 100 (pastBefore 7) refl;
   set-first = release.set-first block 100 (pastBefore 18) refl;
   after-error = release.after-error block 100 (pastBefore 19) refl refl;
   mirrored = faults.mirrored block 100 (pastBefore 7) refl;
   in-time = faults.in-time (deviceBefore 7) 100 144 (omega arith);
-  stands-same = faults.stands-same (deviceBefore 7) 100 beside refl;
-  moved-step = moving.moved-step 5 (deviceBefore 7) 100 beside (omega arith) (omega arith);
-  moved-after = moving.moved-after 5 block 100 (pastBefore 3) (omega arith) (more (omega arith) (more (omega arith) (more (omega arith) none)));
-  moved-call =
-      moving.moved-call 5 block 100 (pastBefore 3) (happening.Request 14 (set 0)) (omega arith) (omega arith)
+  unchanged-same = faults.unchanged-same (deviceBefore 7) 100 beside refl;
+  delayed-step = moving.delayed-step 5 (deviceBefore 7) 100 beside (omega arith) (omega arith);
+  delayed-after = moving.delayed-after 5 block 100 (pastBefore 3) (omega arith) (more (omega arith) (more (omega arith) (more (omega arith) none)));
+  delayed-call =
+      moving.delayed-call 5 block 100 (pastBefore 3) (happening.Request 14 (set 0)) (omega arith) (omega arith)
       (more (omega arith) (more (omega arith) (more (omega arith) none)));
-  taken-in-21 = faults.taken-in-21 block 100 (pastBefore 1) 4294967295 zeros refl;
-  taken-in-24 = faults.taken-later block 100 (pastBefore 3) 14 (set 0) refl;
-  taken-in-26 = faults.taken-later block 100 (pastBefore 11) 169 (intact 6) refl;
+  admitted-in-21 = faults.admitted-in-21 block 100 (pastBefore 1) 4294967295 zeros refl;
+  admitted-in-24 = faults.admitted-later block 100 (pastBefore 3) 14 (set 0) refl;
+  admitted-in-26 = faults.admitted-later block 100 (pastBefore 11) 169 (intact 6) refl;
   discarded-zeros = faults.discarded (deviceBefore 1) 100 4294967295 zeros refl;
   discarded-old = faults.discarded (deviceBefore 3) 100 14 (set 0) refl;
   damaged-safe = faults.damaged-safe (deviceBefore 10) 100 164 (damaged 6) refl refl refl refl;

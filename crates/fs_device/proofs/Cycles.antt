@@ -1,5 +1,5 @@
 -- How long DCommErr and DTimeout are shown (000 Table 40, CommErrCount and TimeoutCount: "at least for 1 cycle or for a maximum of 2 cycles").
--- A cycle is an SPDU taken. Assumes nothing.
+-- A cycle is an SPDU admitted. Assumes nothing.
 use Prim.Native.Nat.{ℕ, _+_, _≤_, _<_}
 use native.Mathlib.Omega.{arith}
 use mathlib.Core.Path.{_≡_, refl, sym, _∙_}
@@ -12,8 +12,8 @@ use Rattle.scl.specs.declared.Happening.{Happening}
 use Rattle.scl.specs.declared.Request.{Request}
 use Rattle.scl.proofs.Cases.{no}
 use Rattle.fs_device.specs.declared.Device.{Device}
-use Rattle.fs_device.specs.Table40.{taken, t22, t25, t28, t29, t30t31}
-use Rattle.fs_device.specs.Calls.{judged, stepOf}
+use Rattle.fs_device.specs.Table40.{admitted, t22, t25, t28, t29, t30t31}
+use Rattle.fs_device.specs.Calls.{watched, stepOf}
 use Rattle.fs_device.specs.History.{deviceAfter, timesOut, errsBy, passesBy, hadError, hadTimeout, cyclesSinceError, cyclesSinceTimeout}
 use Rattle.fs_device.proofs.Rows.{call-case}
 use Rattle.fs_device.proofs.Watchdog.{timeout-after}
@@ -66,21 +66,21 @@ abbrev Errors : Device → Bool → ℕ → Type 0
 Errors d had n = Shown 1 d (d .DCommErr) (d .CommErrCount) had n
 
 t29-errors : (d : Device) (at : ℕ) (q : Request) (had : Bool) (n : ℕ) (CommErr : Bool) → Errors d had n
-    → Errors (t29 (taken d q) at CommErr) (CommErr || had) (cond CommErr 0 (cond (not CommErr) (n + 1) n))
-unfolding taken t29
+    → Errors (t29 (admitted d q) at CommErr) (CommErr || had) (cond CommErr 0 (cond (not CommErr) (n + 1) n))
+unfolding admitted t29
 t29-errors d at q had n true k = last refl refl refl refl (omega arith) (omega arith)
-t29-errors d at q had n false k = fades (t29 (taken d q) at false) refl (omega arith) k
+t29-errors d at q had n false k = fades (t29 (admitted d q) at false) refl (omega arith) k
 
-step-errors : (d : Device) (w : ℕ) (h : Happening) (had : Bool) (n : ℕ) → let j = judged d w (readingOf h) in
+step-errors : (d : Device) (w : ℕ) (h : Happening) (had : Bool) (n : ℕ) → let j = watched d w (readingOf h) in
     Errors j had n → Errors (stepOf d w h .device) (errsBy j h || had) (cond (errsBy j h) 0 (cond (passesBy j h) (n + 1) n))
-unfolding taken t22 t25 t28
+unfolding admitted t22 t25 t28
 step-errors d w h had n k =
-    let j = judged d w (readingOf h) in
+    let j = watched d w (readingOf h) in
     call-case d w h (λ e p m. Errors m (e || had) (cond e 0 (cond p (n + 1) n))) (record {
       none = k;
-      by22 = λ at q s. cleared (t22 (taken j q) at (q .setSD)) (λ in26 _. eqb-false (j .state) 26 s in26) k;
+      by22 = λ at q s. cleared (t22 (admitted j q) at (q .setSD)) (λ in26 _. eqb-false (j .state) 26 s in26) k;
       by25 = λ _ _ _. first refl refl refl refl refl refl;
-      by28 = λ at q _ none. cleared (t28 (taken j q) at) (λ _ three. omega (arith, none, three)) k;
+      by28 = λ at q _ none. cleared (t28 (admitted j q) at) (λ _ three. omega (arith, none, three)) k;
       by29 = λ at q CommErr _. t29-errors j at q had n CommErr k;
     })
 
@@ -90,21 +90,21 @@ abbrev Timeouts : Device → Bool → ℕ → Type 0
 Timeouts d had n = Shown 2 d (d .DTimeout) (d .TimeoutCount) had n
 
 t29-timeouts : (d : Device) (at : ℕ) (q : Request) (had : Bool) (n : ℕ) (CommErr : Bool) → Timeouts d had n
-    → Timeouts (t29 (taken d q) at CommErr) had (cond (CommErr || not CommErr) (n + 1) n)
-unfolding taken t29
-t29-timeouts d at q had n true k = fades (t29 (taken d q) at true) refl (omega arith) k
-t29-timeouts d at q had n false k = fades (t29 (taken d q) at false) refl (omega arith) k
+    → Timeouts (t29 (admitted d q) at CommErr) had (cond (CommErr || not CommErr) (n + 1) n)
+unfolding admitted t29
+t29-timeouts d at q had n true k = fades (t29 (admitted d q) at true) refl (omega arith) k
+t29-timeouts d at q had n false k = fades (t29 (admitted d q) at false) refl (omega arith) k
 
-step-timeouts : (d : Device) (w : ℕ) (h : Happening) (had : Bool) (n : ℕ) → let j = judged d w (readingOf h) in
+step-timeouts : (d : Device) (w : ℕ) (h : Happening) (had : Bool) (n : ℕ) → let j = watched d w (readingOf h) in
     Timeouts j had n → Timeouts (stepOf d w h .device) had (cond (errsBy j h || passesBy j h) (n + 1) n)
-unfolding taken t22 t25 t28
+unfolding admitted t22 t25 t28
 step-timeouts d w h had n k =
-    let j = judged d w (readingOf h) in
+    let j = watched d w (readingOf h) in
     call-case d w h (λ e p m. Timeouts m had (cond (e || p) (n + 1) n)) (record {
       none = k;
-      by22 = λ at q s. cleared (t22 (taken j q) at (q .setSD)) (λ in26 _. eqb-false (j .state) 26 s in26) k;
-      by25 = λ at q s. stays-over (t25 (taken j q) at) (eqb-false (j .state) 26 s) k;
-      by28 = λ at q _ none. cleared (t28 (taken j q) at) (λ _ three. omega (arith, none, three)) k;
+      by22 = λ at q s. cleared (t22 (admitted j q) at (q .setSD)) (λ in26 _. eqb-false (j .state) 26 s in26) k;
+      by25 = λ at q s. stays-over (t25 (admitted j q) at) (eqb-false (j .state) 26 s) k;
+      by28 = λ at q _ none. cleared (t28 (admitted j q) at) (λ _ three. omega (arith, none, three)) k;
       by29 = λ at q CommErr _. t29-timeouts j at q had n CommErr k;
     })
 

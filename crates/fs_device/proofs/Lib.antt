@@ -4,5 +4,5 @@ pub mod Watchdog
 pub mod Release
 pub mod Cycles
 pub mod Reports
-pub mod Moved
+pub mod Delayed
 pub mod Arises

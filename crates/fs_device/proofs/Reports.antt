@@ -11,11 +11,11 @@ use Rattle.scl.specs.Happenings.{readingOf}
 use Rattle.scl.specs.declared.Happening.{Happening}
 use Rattle.scl.proofs.Cases.{and-left, no}
 use Rattle.fs_device.specs.declared.Device.{Device}
-use Rattle.fs_device.specs.Table40.{taken, t22, t25, t28, t29, t30t31}
-use Rattle.fs_device.specs.Calls.{judged, stepOf}
-use Rattle.fs_device.specs.History.{deviceAfter, timesOut, errsBy, passesBy, hadTimeout, cyclesSinceTimeout, hasTaken, lastTaken}
-use Rattle.fs_device.proofs.Rows.{judged-case, call-case}
-use Rattle.fs_device.proofs.Faults.{mirrored, last-taken}
+use Rattle.fs_device.specs.Table40.{admitted, t22, t25, t28, t29, t30t31}
+use Rattle.fs_device.specs.Calls.{watched, stepOf}
+use Rattle.fs_device.specs.History.{deviceAfter, timesOut, errsBy, passesBy, hadTimeout, cyclesSinceTimeout, hasAdmitted, lastAdmitted}
+use Rattle.fs_device.proofs.Rows.{watched-case, call-case}
+use Rattle.fs_device.proofs.Faults.{mirrored, last-admitted}
 use Rattle.fs_device.proofs.Watchdog.{timeout-after}
 use Rattle.fs_device.proofs.Cycles.{timeout-shown}
 
@@ -24,9 +24,9 @@ use Rattle.fs_device.proofs.Cycles.{timeout-shown}
 abbrev Sound : Device → Type 0
 Sound d = d .released ≡ true → (d .SDset ≡ false) × ((d .DCommErr ≡ false) × ((d .DTimeout ≡ false) × (d .«setSD_DC» ≡ false)))
 
-judged-sound : (d : Device) (w at : ℕ) → Sound d → Sound (judged d w at)
+watched-sound : (d : Device) (w at : ℕ) → Sound d → Sound (watched d w at)
 unfolding t30t31
-judged-sound d w at h = judged-case d w at (λ _ n. Sound n) h (λ e. no (sym e)) (λ e. no (sym e))
+watched-sound d w at h = watched-case d w at (λ _ n. Sound n) h (λ e. no (sym e)) (λ e. no (sym e))
 
 -- T22: SDset, and setSD_DC, where it releases
 neither : (counting set : Bool) → (not counting && not set) ≡ true → (counting ≡ false) × ((counting || set) ≡ false)
@@ -41,10 +41,10 @@ t22-sound d at setSD e = let both = neither (not (eqb (d .SDcycles) 0)) setSD e 
 step-sound : (d : Device) (w : ℕ) (h : Happening) → Sound d → Sound (stepOf d w h .device)
 unfolding t25 t28 t29
 step-sound d w h s =
-    let j = judged d w (readingOf h) in
+    let j = watched d w (readingOf h) in
     call-case d w h (λ _ _ n. Sound n) (record {
-      none = judged-sound d w (readingOf h) s;
-      by22 = λ at q _. t22-sound (taken j q) at (q .setSD);
+      none = watched-sound d w (readingOf h) s;
+      by22 = λ at q _. t22-sound (admitted j q) at (q .setSD);
       by25 = λ _ _ _ e. no (sym e);
       by28 = λ _ _ _ _ e. no (sym e);
       by29 = λ _ _ _ _ e. no (sym e);
@@ -56,27 +56,27 @@ unfolding deviceAfter
 released-sound at w [] e = no (sym e)
 released-sound at w (h ∷ past) e = step-sound (deviceAfter at w past) w h (released-sound at w past) e
 
--- ---- it responds once an SPDU was taken (R23: until then zeros are sent), with the mirror of the MCount last taken (R21)
+-- ---- it responds once an SPDU was admitted (R23: until then zeros are sent), with the mirror of the MCount last admitted (R21)
 
 record Responds (d : Device) (has : Bool) : Type 0 where
   pub prepared : d .responded ≡ has
   pub timed : d .runs ≡ has
 
-judged-responds : (at w : ℕ) (past : List Happening) (h : Happening) (has : Bool) → let d = deviceAfter at w past in
-    Responds d has → Responds (judged d w (readingOf h)) has
+watched-responds : (at w : ℕ) (past : List Happening) (h : Happening) (has : Bool) → let d = deviceAfter at w past in
+    Responds d has → Responds (watched d w (readingOf h)) has
 unfolding t30t31
-judged-responds at w past h has k =
+watched-responds at w past h has k =
     let d = deviceAfter at w past in
     timeout-after at w past h (λ out j. (out ≡ true → has ≡ true) → Responds j has)
     (λ _. k)
     (λ once. record { prepared = sym (once refl); timed = sym (once refl) })
     (λ out. sym (k .timed) ∙ and-left (d .runs) (expiredOf (readingOf h) (d .DTimer) w) out)
 
-taken-one : (CommErr has : Bool) → true ≡ (CommErr || not CommErr || has)
-taken-one true has = refl
-taken-one false has = refl
+admitted-one : (CommErr has : Bool) → true ≡ (CommErr || not CommErr || has)
+admitted-one true has = refl
+admitted-one false has = refl
 
-step-responds : (d : Device) (w : ℕ) (h : Happening) (has : Bool) → let j = judged d w (readingOf h) in
+step-responds : (d : Device) (w : ℕ) (h : Happening) (has : Bool) → let j = watched d w (readingOf h) in
     Responds j has → Responds (stepOf d w h .device) (errsBy j h || passesBy j h || has)
 unfolding t22 t25 t28 t29
 step-responds d w h has k =
@@ -85,25 +85,25 @@ step-responds d w h has k =
       by22 = λ _ _ _. record { prepared = refl; timed = refl };
       by25 = λ _ _ _. record { prepared = refl; timed = refl };
       by28 = λ _ _ _ _. record { prepared = refl; timed = refl };
-      by29 = λ _ _ CommErr _. record { prepared = taken-one CommErr has; timed = taken-one CommErr has };
+      by29 = λ _ _ CommErr _. record { prepared = admitted-one CommErr has; timed = admitted-one CommErr has };
     })
 
 module _ (at w : ℕ) where
-  responds : (past : List Happening) → Responds (deviceAfter at w past) (hasTaken at w past)
-  unfolding deviceAfter hasTaken
+  responds : (past : List Happening) → Responds (deviceAfter at w past) (hasAdmitted at w past)
+  unfolding deviceAfter hasAdmitted
   responds [] = record { prepared = refl; timed = refl }
   responds (h ∷ past) =
-      step-responds (deviceAfter at w past) w h (hasTaken at w past) (judged-responds at w past h (hasTaken at w past) (responds past))
+      step-responds (deviceAfter at w past) w h (hasAdmitted at w past) (watched-responds at w past h (hasAdmitted at w past) (responds past))
 
-  pub responds-once : (past : List Happening) → deviceAfter at w past .responded ≡ hasTaken at w past
+  pub responds-once : (past : List Happening) → deviceAfter at w past .responded ≡ hasAdmitted at w past
   responds-once past = responds past .prepared
 
-  pub mirrors-last : (past : List Happening) → hasTaken at w past ≡ true → deviceAfter at w past .«DCount_i» ≡ inverted (lastTaken at w past)
-  mirrors-last past has = mirrored at w past (responds-once past ∙ has) ∙ ap inverted (last-taken at w past)
+  pub mirrors-last : (past : List Happening) → hasAdmitted at w past ≡ true → deviceAfter at w past .«DCount_i» ≡ inverted (lastAdmitted at w past)
+  mirrors-last past has = mirrored at w past (responds-once past ∙ has) ∙ ap inverted (last-admitted at w past)
 
 -- ---- an error and a timeout are in the next SPDU that it builds
 
-pub error-told : (d : Device) (w : ℕ) (h : Happening) → errsBy (judged d w (readingOf h)) h ≡ true → stepOf d w h .device .DCommErr ≡ true
+pub error-told : (d : Device) (w : ℕ) (h : Happening) → errsBy (watched d w (readingOf h)) h ≡ true → stepOf d w h .device .DCommErr ≡ true
 unfolding t25 t29
 error-told d w h =
     call-case d w h (λ e _ n. e ≡ true → n .DCommErr ≡ true) (record {
@@ -120,8 +120,8 @@ timeout-told at w past h e =
     timeout-shown at w (h ∷ past) (rw e) (rw e (at-most (errsBy j h || passesBy j h)))
   where
     j : Device
-    j = judged (deviceAfter at w past) w (readingOf h)
+    j = watched (deviceAfter at w past) w (readingOf h)
 
-    at-most : (taken : Bool) → cond taken 1 0 ≤ 1
+    at-most : (admitted : Bool) → cond admitted 1 0 ≤ 1
     at-most true = omega arith
     at-most false = omega arith

@@ -17,10 +17,10 @@ use Rattle.fs_device.specs.declared.Device.{Device}
 use Rattle.fs_device.specs.declared.Outcome.{Outcome}
 use Rattle.fs_device.specs.declared.Row.{Row}
 use Rattle.fs_device.specs.declared.Row.the-variants.{Stay, T30, T31}
-use Rattle.fs_device.specs.Table40.{watchdogRow, isOld, isTaken, checked, arrivalRow, t22, t25, t28, t29, t30t31, acted}
-use Rattle.fs_device.specs.Calls.{judged, quiet, arrived, received, watched, stepOf}
-use Rattle.fs_device.specs.History.{deviceAfter, timesOut, isTimeoutRow, waits, acts, arrives, watches, lastRow, lastTakenAt}
-use Rattle.fs_device.proofs.Rows.{judged-case, timeout-case, row-case, step-case, call-case}
+use Rattle.fs_device.specs.Table40.{watchdogRow, isOld, isAdmitted, checked, arrivalRow, t22, t25, t28, t29, t30t31, acted}
+use Rattle.fs_device.specs.Calls.{watched, quiet, arrived, received, clocked, stepOf}
+use Rattle.fs_device.specs.History.{deviceAfter, timesOut, isTimeoutRow, waits, acts, arrives, watches, lastRow, lastAdmittedAt}
+use Rattle.fs_device.proofs.Rows.{watched-case, timeout-case, row-case, step-case, call-case}
 use Rattle.fs_device.proofs.Faults.{waits-always}
 
 -- ---- what one call does to the timer: a row that acts restarts it, and it runs from then; without one it stays
@@ -30,10 +30,10 @@ record Timed (d : Device) (at : ℕ) (row : Bool) (n : Device) : Type 0 where
   pub runs-is : n .runs ≡ cond row true (d .runs)
   pub goes : (d .runs ≡ not (eqb (d .state) 21)) → n .runs ≡ not (eqb (n .state) 21)
 
-judged-timed : (d : Device) (w at : ℕ) → Timed d at (acts (watchdogRow d w at)) (judged d w at)
+watched-timed : (d : Device) (w at : ℕ) → Timed d at (acts (watchdogRow d w at)) (watched d w at)
 unfolding t30t31
-judged-timed d w at =
-    judged-case d w at (λ r n. Timed d at (acts r) n)
+watched-timed d w at =
+    watched-case d w at (λ r n. Timed d at (acts r) n)
     (record { reads = refl; runs-is = refl; goes = λ e. e })
     (record { reads = refl; runs-is = refl; goes = λ _. refl })
     (record { reads = refl; runs-is = refl; goes = λ _. refl })
@@ -50,7 +50,7 @@ arrived-timed d r at q =
 received-timed : (d : Device) (r : Row) (at : ℕ) (q : Request) → let o = received d r at q in Timed d at (acts (o .arrival)) (o .device)
 unfolding received quiet
 received-timed d r at q =
-    cond-case (λ (o : Outcome). Timed d at (acts (o .arrival)) (o .device)) (isTaken d q) {x = arrived d r at q (checked d q)} {y = quiet d r (isOld d q)}
+    cond-case (λ (o : Outcome). Timed d at (acts (o .arrival)) (o .device)) (isAdmitted d q) {x = arrived d r at q (checked d q)} {y = quiet d r (isOld d q)}
     (λ _. arrived-timed d r at q)
     (λ _. record { reads = refl; runs-is = refl; goes = λ e. e })
 
@@ -59,11 +59,11 @@ unfolding quiet arrived
 step-watchdog d w h = step-case d w (λ _ _ o. o .watchdog ≡ watchdogRow d w (readingOf h)) h (λ _. refl) (λ _ _. refl)
 
 step-timed : (d : Device) (w : ℕ) (h : Happening) → let o = stepOf d w h in Timed d (readingOf h) (acts (o .arrival) || acts (o .watchdog)) (o .device)
-unfolding stepOf watched quiet
+unfolding stepOf clocked quiet
 step-timed d w (happening.Request at q) =
-    let j = judged-timed d w at in
-    let k = received-timed (judged d w at) (watchdogRow d w at) at q in
-    let o = received (judged d w at) (watchdogRow d w at) at q in
+    let j = watched-timed d w at in
+    let k = received-timed (watched d w at) (watchdogRow d w at) at q in
+    let o = received (watched d w at) (watchdogRow d w at) at q in
     record {
       reads =
           k .reads ∙ ap (λ (t : ℕ). cond (acts (o .arrival)) at t) (j .reads)
@@ -75,9 +75,9 @@ step-timed d w (happening.Request at q) =
           ∙ ap (λ (r : Row). cond (acts (o .arrival) || acts r) true (d .runs)) (sym (step-watchdog d w (happening.Request at q)));
       goes = λ e. k .goes (j .goes e);
     }
-step-timed d w (happening.Response at f) = judged-timed d w at
-step-timed d w (happening.Clock at) = judged-timed d w at
-step-timed d w (happening.Operator at «setSD_C» «ChFAck_C») = judged-timed d w at
+step-timed d w (happening.Response at f) = watched-timed d w at
+step-timed d w (happening.Clock at) = watched-timed d w at
+step-timed d w (happening.Operator at «setSD_C» «ChFAck_C») = watched-timed d w at
 
 module _ (at w : ℕ) where
   -- DTimer runs exactly outside of state 21,
@@ -97,7 +97,7 @@ module _ (at w : ℕ) where
       go false in24 in26 a b = b
 
   module _ (past : List Happening) (h : Happening) where
-    pub timeout-after : (P : Bool → Device → Type 0) → let d = deviceAfter at w past in P false d → P true (t30t31 d (readingOf h)) → P (timesOut d w (readingOf h)) (judged d w (readingOf h))
+    pub timeout-after : (P : Bool → Device → Type 0) → let d = deviceAfter at w past in P false d → P true (t30t31 d (readingOf h)) → P (timesOut d w (readingOf h)) (watched d w (readingOf h))
     timeout-after P in-time over =
         timeout-case (deviceAfter at w past) w (readingOf h) (λ out _ j. P out j) (runs-in past) in-time over over
 
@@ -114,21 +114,21 @@ record Ended (n : Device) : Type 0 where
   pub cycles : n .SDcycles ≡ 3
   pub silent : n .released ≡ false
 
-late-judged : (d : Device) (w at : ℕ) → waits d ≡ true → eqb (d .state) 21 ≡ false → d .runs ≡ true → w < elapsedOf at (d .DTimer) → Ended (judged d w at)
-unfolding judged watchdogRow acted t30t31
-late-judged d w at rests not21 runs late = simp (runs, lt-ltb w (elapsedOf at (d .DTimer)) late) (go (eqb (d .state) 24) (eqb (d .state) 26) refl refl)
+late-watched : (d : Device) (w at : ℕ) → waits d ≡ true → eqb (d .state) 21 ≡ false → d .runs ≡ true → w < elapsedOf at (d .DTimer) → Ended (watched d w at)
+unfolding watched watchdogRow acted t30t31
+late-watched d w at rests not21 runs late = simp (runs, lt-ltb w (elapsedOf at (d .DTimer)) late) (go (eqb (d .state) 24) (eqb (d .state) 26) refl refl)
   where
     go : (in24 in26 : Bool) → eqb (d .state) 24 ≡ in24 → eqb (d .state) 26 ≡ in26 → Ended (acted d (cond in24 T31 (cond in26 T30 Stay)) at false false)
     go true in26 e24 e26 = record { in26 = refl; cycles = refl; silent = refl }
     go false true e24 e26 = record { in26 = refl; cycles = refl; silent = refl }
     go false false e24 e26 = no (sym (simp (not21, e24, e26) at rests))
 
-late-step : (d : Device) (w : ℕ) (h : Happening) → Ended (judged d w (readingOf h)) → stepOf d w h .device .released ≡ false
+late-step : (d : Device) (w : ℕ) (h : Happening) → Ended (watched d w (readingOf h)) → stepOf d w h .device .released ≡ false
 unfolding t25 t28 t29
 late-step d w h e =
     call-case d w h (λ _ _ n. n .released ≡ false) (record {
       none = e .silent;
-      by22 = λ _ _ s. absurd (eqb-false (judged d w (readingOf h) .state) 26 s (e .in26));
+      by22 = λ _ _ s. absurd (eqb-false (watched d w (readingOf h) .state) 26 s (e .in26));
       by25 = λ _ _ _. refl;
       by28 = λ _ _ _ _. refl;
       by29 = λ _ _ _ _. refl;
@@ -140,14 +140,14 @@ pub late : (at w : ℕ) (past : List Happening) (h : Happening) → let d = devi
 unfolding deviceAfter
 late at w past h runs over =
     let d = deviceAfter at w past in
-    late-step d w h (late-judged d w (readingOf h) (waits-always at w past) (not-true (eqb (d .state) 21) (sym (timer-runs at w past) ∙ runs)) runs over)
+    late-step d w h (late-watched d w (readingOf h) (waits-always at w past) (not-true (eqb (d .state) 21) (sym (timer-runs at w past) ∙ runs)) runs over)
 
--- ---- so nothing is released longer than W after the last SPDU that was taken
+-- ---- so nothing is released longer than W after the last SPDU that was admitted
 
--- where a call leaves values released, its SPDU was taken; or no row acted and they were released before
-still-judged : (d : Device) (w at : ℕ) → judged d w at .released ≡ true → (acts (watchdogRow d w at) ≡ false) × (d .released ≡ true)
+-- where a call leaves values released, its SPDU was admitted; or no row acted and they were released before
+still-watched : (d : Device) (w at : ℕ) → watched d w at .released ≡ true → (acts (watchdogRow d w at) ≡ false) × (d .released ≡ true)
 unfolding t30t31
-still-judged d w at = judged-case d w at (λ r n. n .released ≡ true → (acts r ≡ false) × (d .released ≡ true)) (λ e. (refl, e)) (λ e. no (sym e)) (λ e. no (sym e))
+still-watched d w at = watched-case d w at (λ r n. n .released ≡ true → (acts r ≡ false) × (d .released ≡ true)) (λ e. (refl, e)) (λ e. no (sym e)) (λ e. no (sym e))
 
 arrival-acts : (d : Device) (at : ℕ) (q : Request) (CommErr : Bool) → acts (arrivalRow d CommErr) ≡ true
 arrival-acts d at q CommErr = row-case d at q (λ r _ _. acts r ≡ true) CommErr (λ _. refl) (λ _. refl) (λ _ _. refl) (λ _. refl)
@@ -158,9 +158,9 @@ Still d o = (acts (o .arrival) ≡ true) ⊎ ((acts (o .arrival) ≡ false) × (
 still : (d : Device) (w : ℕ) (h : Happening) → stepOf d w h .device .released ≡ true → Still d (stepOf d w h)
 unfolding quiet arrived
 still d w h =
-    let j = judged d w (readingOf h) in
+    let j = watched d w (readingOf h) in
     step-case d w (λ _ _ o. o .device .released ≡ true → Still d o) h
-    (λ _ e. inr (refl, still-judged d w (readingOf h) e))
+    (λ _ e. inr (refl, still-watched d w (readingOf h) e))
     (λ at q _. inl (arrival-acts j at q (isFailure (checked j q))))
 
 module _ (at w : ℕ) where
@@ -181,5 +181,5 @@ module _ (at w : ℕ) where
 
   -- After no call is a value released whose last SPDU lies more than W back.
   pub released-in-time : (past : List Happening) (h : Happening) → readingOf h < 2 ^ 32 → deviceAfter at w (h ∷ past) .released ≡ true
-      → elapsedOf (readingOf h) (lastTakenAt at w (h ∷ past)) ≤ w
+      → elapsedOf (readingOf h) (lastAdmittedAt at w (h ∷ past)) ≤ w
   released-in-time past h = law.released-in-time (deviceAfter at w) (λ d. d .runs) (λ d. d .released) (λ d. d .DTimer) (arrives w) (watches w) at w timed past h

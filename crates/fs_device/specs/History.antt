@@ -8,7 +8,7 @@ use Rattle.scl.specs.Counts.{inverted}
 use Rattle.scl.specs.Time.{expiredOf}
 use Rattle.scl.specs.Happenings.{readingOf}
 use Rattle.scl.specs.Readings.{lastReading}
-use Rattle.scl.specs.Moved.{moved}
+use Rattle.scl.specs.Delayed.{delayed}
 use Rattle.scl.specs.declared.Happening.{Happening}
 use Rattle.scl.specs.declared.Happening.the-variants as happening
 use Rattle.scl.specs.declared.Request.{Request}
@@ -16,13 +16,13 @@ use Rattle.fs_device.specs.declared.Device.{Device}
 use Rattle.fs_device.specs.declared.Outcome.{Outcome}
 use Rattle.fs_device.specs.declared.Row.{Row}
 use Rattle.fs_device.specs.declared.Row.the-variants.{Stay, T22, T25, T28, T29, T30, T31}
-use Rattle.fs_device.specs.Table40.{firstDevice, isTaken, countHolds}
-use Rattle.fs_device.specs.Calls.{judged, stepOf}
+use Rattle.fs_device.specs.Table40.{firstDevice, isAdmitted, countHolds}
+use Rattle.fs_device.specs.Calls.{watched, stepOf}
 
--- the SPDU that T22 releases, at a device whose watchdog has been judged
+-- the SPDU that T22 releases, at a device whose watchdog has been looked at
 pub record Releases (d : Device) (q : Request) : Type 0 where
-  pub taken : isTaken d q ≡ true
-  pub regular : eqb (d .state) 26 ≡ false
+  pub admitted : isAdmitted d q ≡ true
+  pub not-in-26 : eqb (d .state) 26 ≡ false
   pub signature : q .«signature_holds» ≡ true
   pub port : q .«port_holds» ≡ true
   pub count : countHolds d q ≡ true
@@ -31,7 +31,7 @@ pub record Releases (d : Device) (q : Request) : Type 0 where
 
 -- the happening of a call that hands on fresh octets
 unfoldable pub FreshBy : Device → ℕ → Happening → Type 0
-FreshBy d w (happening.Request at q) = Releases (judged d w at) q × (stepOf d w (happening.Request at q) .arrival ≡ T22)
+FreshBy d w (happening.Request at q) = Releases (watched d w at) q × (stepOf d w (happening.Request at q) .arrival ≡ T22)
 FreshBy d w (happening.Response at response) = ⊥
 FreshBy d w (happening.Clock at) = ⊥
 FreshBy d w (happening.Operator at «setSD_C» «ChFAck_C») = ⊥
@@ -49,16 +49,16 @@ sound d q = q .«signature_holds» && q .«port_holds» && countHolds d q
 abbrev pub timesOut : Device → ℕ → ℕ → Bool
 timesOut d w at = d .runs && expiredOf at (d .DTimer) w
 
--- Table 39, CommErr: "a CRC or counter/port error in the received SPDU", of one that is taken, at a device whose watchdog has been judged
+-- Table 39, CommErr: "a CRC or counter/port error in the received SPDU", of one that is admitted, at a device whose watchdog has been looked at
 abbrev pub errsBy : Device → Happening → Bool
-errsBy d (happening.Request at q) = isTaken d q && not (sound d q)
+errsBy d (happening.Request at q) = isAdmitted d q && not (sound d q)
 errsBy d (happening.Response at response) = false
 errsBy d (happening.Clock at) = false
 errsBy d (happening.Operator at «setSD_C» «ChFAck_C») = false
 
--- one is taken that has none
+-- one is admitted that has none
 abbrev pub passesBy : Device → Happening → Bool
-passesBy d (happening.Request at q) = isTaken d q && sound d q
+passesBy d (happening.Request at q) = isAdmitted d q && sound d q
 passesBy d (happening.Response at response) = false
 passesBy d (happening.Clock at) = false
 passesBy d (happening.Operator at «setSD_C» «ChFAck_C») = false
@@ -83,19 +83,19 @@ isTimeoutRow T29 = false
 isTimeoutRow T30 = true
 isTimeoutRow T31 = true
 
--- how many SPDUs passed their checks since the block, or since the last error or timeout after it; of one call the watchdog is judged first
+-- how many SPDUs passed their checks since the block, or since the last error or timeout after it; of one call the watchdog is looked at first
 unfoldable pub passedSince : ℕ → ℕ → List Happening → ℕ
 passedSince at w [] = 0
 passedSince at w (h ∷ past) =
     let d = deviceAfter at w past in
-    let j = judged d w (readingOf h) in
+    let j = watched d w (readingOf h) in
     let before = cond (timesOut d w (readingOf h)) 0 (passedSince at w past) in
     cond (errsBy j h) 0 (cond (passesBy j h) (before + 1) before)
 
 -- whether there was an error since the block, and whether there was a timeout
 unfoldable pub hadError : ℕ → ℕ → List Happening → Bool
 hadError at w [] = false
-hadError at w (h ∷ past) = errsBy (judged (deviceAfter at w past) w (readingOf h)) h || hadError at w past
+hadError at w (h ∷ past) = errsBy (watched (deviceAfter at w past) w (readingOf h)) h || hadError at w past
 
 unfoldable pub hadTimeout : ℕ → ℕ → List Happening → Bool
 hadTimeout at w [] = false
@@ -104,48 +104,48 @@ hadTimeout at w (h ∷ past) = timesOut (deviceAfter at w past) w (readingOf h) 
 unfoldable pub hadErrorOrTimeout : ℕ → ℕ → List Happening → Bool
 hadErrorOrTimeout at w past = hadError at w past || hadTimeout at w past
 
--- how many SPDUs were taken since the last with an error, and since the last timeout: a cycle each. One taken in the very call of a timeout
+-- how many SPDUs were admitted since the last with an error, and since the last timeout: a cycle each. One admitted in the very call of a timeout
 -- comes after it
 unfoldable pub cyclesSinceError : ℕ → ℕ → List Happening → ℕ
 cyclesSinceError at w [] = 0
 cyclesSinceError at w (h ∷ past) =
-    let j = judged (deviceAfter at w past) w (readingOf h) in
+    let j = watched (deviceAfter at w past) w (readingOf h) in
     cond (errsBy j h) 0 (cond (passesBy j h) (cyclesSinceError at w past + 1) (cyclesSinceError at w past))
 
 unfoldable pub cyclesSinceTimeout : ℕ → ℕ → List Happening → ℕ
 cyclesSinceTimeout at w [] = 0
 cyclesSinceTimeout at w (h ∷ past) =
     let d = deviceAfter at w past in
-    let j = judged d w (readingOf h) in
+    let j = watched d w (readingOf h) in
     let before = cond (timesOut d w (readingOf h)) 0 (cyclesSinceTimeout at w past) in
     cond (errsBy j h || passesBy j h) (before + 1) before
 
--- once it has responded, DCount_i is the mirror of the MCount last taken
+-- once it has responded, DCount_i is the mirror of the MCount last admitted
 abbrev pub Mirrors : Device → Type 0
 Mirrors d = d .responded ≡ true → d .«DCount_i» ≡ inverted (d .MCount)
 
--- whether an SPDU was taken since the block
-unfoldable pub hasTaken : ℕ → ℕ → List Happening → Bool
-hasTaken at w [] = false
-hasTaken at w (h ∷ past) =
-    let j = judged (deviceAfter at w past) w (readingOf h) in
-    errsBy j h || passesBy j h || hasTaken at w past
+-- whether an SPDU was admitted since the block
+unfoldable pub hasAdmitted : ℕ → ℕ → List Happening → Bool
+hasAdmitted at w [] = false
+hasAdmitted at w (h ∷ past) =
+    let j = watched (deviceAfter at w past) w (readingOf h) in
+    errsBy j h || passesBy j h || hasAdmitted at w past
 
--- MCount of the last SPDU taken, at a device whose watchdog has been judged: that of this happening's, else the one before
-unfoldable pub takenBy : Device → Happening → ℕ → ℕ
-takenBy d (happening.Request at q) before = cond (isTaken d q) (q .MCount) before
-takenBy d (happening.Response at response) before = before
-takenBy d (happening.Clock at) before = before
-takenBy d (happening.Operator at «setSD_C» «ChFAck_C») before = before
+-- MCount of the last SPDU admitted, at a device whose watchdog has been looked at: that of this happening's, else the one before
+unfoldable pub admittedBy : Device → Happening → ℕ → ℕ
+admittedBy d (happening.Request at q) before = cond (isAdmitted d q) (q .MCount) before
+admittedBy d (happening.Response at response) before = before
+admittedBy d (happening.Clock at) before = before
+admittedBy d (happening.Operator at «setSD_C» «ChFAck_C») before = before
 
 -- R18: 0 after a block
-unfoldable pub lastTaken : ℕ → ℕ → List Happening → ℕ
-lastTaken at w [] = 0
-lastTaken at w (h ∷ past) = takenBy (judged (deviceAfter at w past) w (readingOf h)) h (lastTaken at w past)
+unfoldable pub lastAdmitted : ℕ → ℕ → List Happening → ℕ
+lastAdmitted at w [] = 0
+lastAdmitted at w (h ∷ past) = admittedBy (watched (deviceAfter at w past) w (readingOf h)) h (lastAdmitted at w past)
 
 -- its ChFAckReq, in the same way
 unfoldable pub askedBy : Device → Happening → Bool → Bool
-askedBy d (happening.Request at q) before = cond (isTaken d q) (q .ChFAckReq) before
+askedBy d (happening.Request at q) before = cond (isAdmitted d q) (q .ChFAckReq) before
 askedBy d (happening.Response at response) before = before
 askedBy d (happening.Clock at) before = before
 askedBy d (happening.Operator at «setSD_C» «ChFAck_C») before = before
@@ -153,7 +153,7 @@ askedBy d (happening.Operator at «setSD_C» «ChFAck_C») before = before
 -- R19: 0 after a block
 unfoldable pub lastAsked : ℕ → ℕ → List Happening → Bool
 lastAsked at w [] = false
-lastAsked at w (h ∷ past) = askedBy (judged (deviceAfter at w past) w (readingOf h)) h (lastAsked at w past)
+lastAsked at w (h ∷ past) = askedBy (watched (deviceAfter at w past) w (readingOf h)) h (lastAsked at w past)
 
 -- a row acts, and restarts DTimer
 abbrev pub acts : Row → Bool
@@ -165,7 +165,7 @@ acts T29 = true
 acts T30 = true
 acts T31 = true
 
--- in a call: the row of an SPDU that is taken, and the watchdog's
+-- in a call: the row of an SPDU that is admitted, and the watchdog's
 abbrev pub arrives : ℕ → Device → Happening → Bool
 arrives w d h = acts (stepOf d w h .arrival)
 
@@ -176,18 +176,18 @@ watches w d h = acts (stepOf d w h .watchdog)
 abbrev pub lastRow : ℕ → ℕ → List Happening → ℕ
 lastRow at w past = lastReading (deviceAfter at w) (λ d h. arrives w d h || watches w d h) at past
 
--- the reading of the last call whose SPDU was taken, or the block's
-abbrev pub lastTakenAt : ℕ → ℕ → List Happening → ℕ
-lastTakenAt at w past = lastReading (deviceAfter at w) (arrives w) at past
+-- the reading of the last call whose SPDU was admitted, or the block's
+abbrev pub lastAdmittedAt : ℕ → ℕ → List Happening → ℕ
+lastAdmittedAt at w past = lastReading (deviceAfter at w) (arrives w) at past
 
 -- in one of the three waits
 abbrev pub waits : Device → Bool
 waits d = eqb (d .state) 21 || eqb (d .state) 24 || eqb (d .state) 26
 
--- all readings moved by k on the clock
-unfoldable pub movedDevice : ℕ → Device → Device
-movedDevice k d = record {
-  DTimer = moved k (d .DTimer);
+-- all readings later by k on the clock
+unfoldable pub delayedDevice : ℕ → Device → Device
+delayedDevice k d = record {
+  DTimer = delayed k (d .DTimer);
   state = d .state;
   SDcycles = d .SDcycles;
   CommErrCount = d .CommErrCount;
@@ -204,9 +204,9 @@ movedDevice k d = record {
   responded = d .responded;
 }
 
-unfoldable pub movedOutcome : ℕ → Outcome → Outcome
-movedOutcome k o = record {
-  device = movedDevice k (o .device);
+unfoldable pub delayedOutcome : ℕ → Outcome → Outcome
+delayedOutcome k o = record {
+  device = delayedDevice k (o .device);
   watchdog = o .watchdog;
   arrival = o .arrival;
   check = o .check;

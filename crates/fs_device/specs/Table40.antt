@@ -3,7 +3,7 @@
 -- Assumes nothing.
 --
 -- How an action is written: "use PDout" is released, "use SDout" is not; "use PDin_D" is responded, since every row prepares a response (R23);
--- "restart DTimer" is DTimer at the call's reading, running. A bit is 1 where its variable is true. MCount is that of the last SPDU taken.
+-- "restart DTimer" is DTimer at the call's reading, running. A bit is 1 where its variable is true. MCount is that of the last SPDU admitted.
 use Prim.Native.Nat.{ℕ, _-_}
 use mathlib.Core.Bool.{Bool, true, false, cond, not, _&&_, _||_}
 use lib.Dec.{eqb}
@@ -16,7 +16,7 @@ use Rattle.fs_device.specs.declared.Device.{Device}
 use Rattle.fs_device.specs.declared.Row.{Row}
 use Rattle.fs_device.specs.declared.Row.the-variants.{Stay, T22, T25, T28, T29, T30, T31}
 
--- R19: after an accepted block with its reading, T20 done; no SPDU has been taken, and DTimer does not run
+-- R19: after an accepted block with its reading, T20 done; no SPDU has been admitted, and DTimer does not run
 abbrev pub firstDevice : ℕ → Device
 firstDevice at = record {
   state = 21;
@@ -51,8 +51,8 @@ abbrev pub isOld : Device → Request → Bool
 isOld d q = not (q .«all_zero») && (eqb (d .state) 24 || eqb (d .state) 26) && eqb (q .MCount) (d .MCount)
 
 -- T21: any SPDU; T24, T27: one that is not old
-unfoldable pub isTaken : Device → Request → Bool
-isTaken d q =
+unfoldable pub isAdmitted : Device → Request → Bool
+isAdmitted d q =
     not (q .«all_zero») && (eqb (d .state) 21 || eqb (d .state) 24 || eqb (d .state) 26) && not (isOld d q)
 
 -- do Counter_check: "MCount carries either 0 or an expected subsequent value" (R18)
@@ -70,9 +70,9 @@ arrivalRow d CommErr =
 
 -- Actions
 
--- T21, T24, T27 and the description of 22 and 27: the SPDU taken gives MCount, and "set ChFAckReq_DC = ChFAckReq" (R18, R21, R22a)
-unfoldable pub taken : Device → Request → Device
-taken d q = record {
+-- T21, T24, T27 and the description of 22 and 27: the SPDU admitted gives MCount, and "set ChFAckReq_DC = ChFAckReq" (R18, R21, R22a)
+unfoldable pub admitted : Device → Request → Device
+admitted d q = record {
   MCount = q .MCount;
   «ChFAckReq_DC» = q .ChFAckReq;
   state = d .state;
@@ -220,7 +220,7 @@ acted d T29 at setSD CommErr = t29 d at CommErr
 acted d T30 at setSD CommErr = t30t31 d at
 acted d T31 at setSD CommErr = t30t31 d at
 
--- the number that stands for a row outside: 000's, and 0 for none
+-- the number of a row outside: 000's, and 0 for none
 abbrev pub rowNumberOf : Row → ℕ
 rowNumberOf Stay = 0
 rowNumberOf T22 = 22

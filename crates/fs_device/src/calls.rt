@@ -7,18 +7,18 @@ use crate::Device;
 use crate::Outcome;
 use crate::Row;
 use crate::table40::acted;
+use crate::table40::admitted;
 use crate::table40::arrival_row;
 use crate::table40::checked;
+use crate::table40::is_admitted;
 use crate::table40::is_old;
-use crate::table40::is_taken;
 use crate::table40::t30_t31;
-use crate::table40::taken;
 use scl::Check;
 use scl::Happening;
 use scl::Request;
 
-// The device once its watchdog has been judged, with the row that did it.
-struct Judged {
+// The device once its watchdog has been looked at, with the row that did it.
+struct AfterWatchdog {
     row: Row,
     device: Device,
 }
@@ -42,7 +42,7 @@ fn arrived(d: Device, watchdog: Row, at: u32, q: Request, failed: Check) -> Outc
 {
     let CommErr = scl::is_failure(failed);
     let row = arrival_row(d, CommErr);
-    let after = acted(taken(d, q), row, at, q.setSD, CommErr);
+    let after = acted(admitted(d, q), row, at, q.setSD, CommErr);
     Outcome {
         device: after,
         watchdog,
@@ -58,7 +58,7 @@ fn received(d: Device, watchdog: Row, at: u32, q: Request) -> Outcome
     ensures { λ r. ⌜ r ≡ calls.received d watchdog at q ⌝ }
 {
     let old = is_old(d, q);
-    if is_taken(d, q, old) {
+    if is_admitted(d, q, old) {
         arrived(d, watchdog, at, q, checked(d, q))
     } else {
         quiet(d, watchdog, old)
@@ -66,35 +66,35 @@ fn received(d: Device, watchdog: Row, at: u32, q: Request) -> Outcome
 }
 
 // DTimeout: T31 from 24, T30 from 26.
-fn timed_out(d: Device, at: u32) -> Judged
+fn timed_out(d: Device, at: u32) -> AfterWatchdog
     ensures { λ r. ⌜ (r .row ≡ table40.timeoutRow (d .state)) × (r .device ≡ table40.acted d (table40.timeoutRow (d .state)) at false false) ⌝ }
 {
     if d.state == 24 {
-        return Judged {
+        return AfterWatchdog {
             row: Row::T31,
             device: t30_t31(d, at),
         };
     }
     if d.state == 26 {
-        Judged {
+        AfterWatchdog {
             row: Row::T30,
             device: t30_t31(d, at),
         }
     } else {
-        Judged {
+        AfterWatchdog {
             row: Row::Stay,
             device: d,
         }
     }
 }
 
-fn watched(d: Device, w: u16, at: u32) -> Judged
-    ensures { λ r. ⌜ (r .row ≡ table40.watchdogRow d w at) × (r .device ≡ calls.judged d w at) ⌝ }
+fn watched(d: Device, w: u16, at: u32) -> AfterWatchdog
+    ensures { λ r. ⌜ (r .row ≡ table40.watchdogRow d w at) × (r .device ≡ calls.watched d w at) ⌝ }
 {
     if d.runs & scl::expired(at, d.DTimer, w) {
         timed_out(d, at)
     } else {
-        Judged {
+        AfterWatchdog {
             row: Row::Stay,
             device: d,
         }
@@ -108,18 +108,18 @@ pub fn step(d: Device, w: u16, happening: Happening) -> Outcome
     let at = scl::reading(happening);
     let after = watched(d, w, at);
     let row = after.row;
-    let judged = after.device;
+    let device = after.device;
     match happening {
-        Happening::Response(_, _) => quiet(judged, row, false),
-        Happening::Request(_, q) => received(judged, row, at, q),
-        Happening::Clock(_) => quiet(judged, row, false),
-        Happening::Operator(_, _, _) => quiet(judged, row, false),
+        Happening::Response(_, _) => quiet(device, row, false),
+        Happening::Request(_, q) => received(device, row, at, q),
+        Happening::Clock(_) => quiet(device, row, false),
+        Happening::Operator(_, _, _) => quiet(device, row, false),
     }
 }
 
-// Whether a happening leaves the device as it stands: no SPDU came for it and its watchdog is not over.
-pub fn stands(d: Device, w: u16, happening: Happening) -> bool
-    ensures { λ r. ⌜ r ≡ calls.stands d w happening ⌝ }
+// Whether a happening leaves the device as it is: no SPDU came for it and its watchdog is not over.
+pub fn unchanged(d: Device, w: u16, happening: Happening) -> bool
+    ensures { λ r. ⌜ r ≡ calls.unchanged d w happening ⌝ }
 {
     let over = d.runs & scl::expired(scl::reading(happening), d.DTimer, w);
     match happening {

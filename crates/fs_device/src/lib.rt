@@ -2,12 +2,12 @@
 mod calls;
 mod table40;
 
-pub use calls::stands;
 pub use calls::step;
+pub use calls::unchanged;
 pub use table40::first;
 pub use table40::row_number;
 
-// 000's variables under their names, between two calls. `state` is 000's number: 21, 24 or 26. MCount is that of the last SPDU taken; DTimer
+// 000's variables under their names, between two calls. `state` is 000's number: 21, 24 or 26. MCount is that of the last SPDU admitted; DTimer
 // is the reading of its last restart, and `runs` says whether there was one. `released`: PDout is in use. `responded`: a response has been
 // prepared; before it the outgoing SPDU is zeros. Both counts of errors are u16, so that no octet of the struct is padding.
 #[repr(C)]

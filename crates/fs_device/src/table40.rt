@@ -37,9 +37,9 @@ pub(crate) fn is_old(d: Device, q: Request) -> bool
     !q.all_zero & ((d.state == 24) | (d.state == 26)) & (q.MCount == d.MCount)
 }
 
-pub(crate) fn is_taken(d: Device, q: Request, old: bool) -> bool
+pub(crate) fn is_admitted(d: Device, q: Request, old: bool) -> bool
     requires { ⌜ old ≡ table40.isOld d q ⌝ }
-    ensures { λ r. ⌜ r ≡ table40.isTaken d q ⌝ }
+    ensures { λ r. ⌜ r ≡ table40.isAdmitted d q ⌝ }
 {
     let waits = (d.state == 21) | (d.state == 24) | (d.state == 26);
     !q.all_zero & waits & !old
@@ -73,8 +73,8 @@ fn less(n: u8) -> u8
     if n == 0 { 0 } else { n - 1 }
 }
 
-pub(crate) fn taken(d: Device, q: Request) -> Device
-    ensures { λ r. ⌜ r ≡ table40.taken d q ⌝ }
+pub(crate) fn admitted(d: Device, q: Request) -> Device
+    ensures { λ r. ⌜ r ≡ table40.admitted d q ⌝ }
 {
     let mut n = d;
     n.MCount = q.MCount;
@@ -200,7 +200,7 @@ pub(crate) fn acted(d: Device, row: Row, at: u32, setSD: bool, CommErr: bool) ->
     }
 }
 
-// The number that stands for a row outside.
+// The number of a row outside.
 pub fn row_number(row: Row) -> u8
     ensures { λ r. ⌜ r ≡ table40.rowNumberOf row ⌝ }
 {

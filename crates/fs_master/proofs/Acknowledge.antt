@@ -16,17 +16,17 @@ use Rattle.fs_master.specs.declared.Master.{Master}
 use Rattle.fs_master.specs.declared.Outcome.{Outcome}
 use Rattle.fs_master.specs.declared.Row.{Row}
 use Rattle.fs_master.specs.declared.Row.the-variants.{Stay, T8, T14}
-use Rattle.fs_master.specs.Table38.{timeoutRow, watchdogRow, isOld, isTaken, hasFaults, checked, arrivalRow, taken, t4, t7, t8, t11, t12, t13, t14, acted, signalled}
-use Rattle.fs_master.specs.Calls.{judged, quiet, arrived, received, watched, operated, stepOf}
-use Rattle.fs_master.specs.History.{masterAfter, judgedIn, Signals, signals, HoldsSignals, timesOut, isFaulty, takenBy, faultyBy, Fault, None, Open, Pressed, Asked, answeredBy, fault, opens, isRequested, setWhenTaken, Held}
+use Rattle.fs_master.specs.Table38.{timeoutRow, watchdogRow, isOld, isAdmitted, hasFaults, checked, arrivalRow, admitted, t4, t7, t8, t11, t12, t13, t14, acted, signalled}
+use Rattle.fs_master.specs.Calls.{watched, quiet, arrived, received, clocked, operated, stepOf}
+use Rattle.fs_master.specs.History.{masterAfter, watchedIn, Signals, signals, HasSignals, timesOut, isFaulty, admittedBy, faultyBy, Fault, None, Open, Pressed, Asked, answeredBy, fault, opens, isRequested, setWhenAdmitted, Held}
 use Rattle.fs_master.proofs.Rows.{timeout-case, row-case}
-use Rattle.fs_master.proofs.Counts.{judged-held, always-held}
+use Rattle.fs_master.proofs.Counts.{watched-held, always-held}
 use Rattle.fs_master.proofs.Samples.{step-watchdog}
 use Rattle.fs_master.proofs.Faults.{faulty-is}
-use Rattle.fs_master.proofs.Signals.{judged-signals, signals-hold}
+use Rattle.fs_master.proofs.Signals.{watched-signals, signals-hold}
 use Rattle.fs_master.proofs.Watchdog.{timer-runs, timed-out, not-timed-out}
 
--- where the acknowledgement stands, by the FS-Master's variables: a fault is open in state 7 alone
+-- how far the acknowledgement is, by the FS-Master's variables: a fault is open in state 7 alone
 abbrev standing : Master → Fault
 standing m = cond (eqb (m .state) 7) (cond (m .«ChFAck_C_e») Asked (cond (m .«ChFAckReq_S») Pressed Open)) None
 
@@ -38,10 +38,10 @@ opened false false e = let z : _≡_ {A = ℕ} 0 1 = cc in absurd (omega arith)
 
 -- ---- one call
 
-judged-fault : (m : Master) (w at : ℕ) (s : Fault) → Held m → m .runs ≡ not (eqb (m .state) 2) → s ≡ standing m → cond (timesOut m w at) Open s ≡ standing (judged m w at)
-judged-fault m w at s h outside p = go (timesOut m w at) refl
+watched-fault : (m : Master) (w at : ℕ) (s : Fault) → Held m → m .runs ≡ not (eqb (m .state) 2) → s ≡ standing m → cond (timesOut m w at) Open s ≡ standing (watched m w at)
+watched-fault m w at s h outside p = go (timesOut m w at) refl
   where
-    go : (b : Bool) → timesOut m w at ≡ b → cond b Open s ≡ standing (judged m w at)
+    go : (b : Bool) → timesOut m w at ≡ b → cond b Open s ≡ standing (watched m w at)
     go true e = let d = timed-out m w at h outside e in simp (d .in7, d .no-edge, d .no-request)
     go false e = rw (not-timed-out m w at e) p
 
@@ -56,10 +56,10 @@ asked false false true e = refl
 asked false false false e = refl
 
 row-fault : (m : Master) (f : Response) (at : ℕ) (faults : Bool) (s : Fault) → Held m → s ≡ standing m
-    → cond faults Open (answeredBy (m .«ChFAck_C») s) ≡ standing (acted (taken m f) (arrivalRow m faults) at (f .SDset))
-unfolding acted taken answeredBy t4 t7 t11 t12 t13
+    → cond faults Open (answeredBy (m .«ChFAck_C») s) ≡ standing (acted (admitted m f) (arrivalRow m faults) at (f .SDset))
+unfolding acted admitted answeredBy t4 t7 t11 t12 t13
 row-fault m f at faults s h p =
-    row-case (λ (r : Row). cond faults Open (answeredBy (m .«ChFAck_C») s) ≡ standing (acted (taken m f) r at (f .SDset))) m faults
+    row-case (λ (r : Row). cond faults Open (answeredBy (m .«ChFAck_C») s) ≡ standing (acted (admitted m f) r at (f .SDset))) m faults
     (λ n z. rw (z, simp n at p))
     (λ n z. rw z (simp (h .no-edge n, sym (h .same) ∙ h .no-request n)))
     (λ y z e. rw (z, and-left (m .«ChFAck_C») (m .«ChFAck_C_e») e, simp (y, and-right (m .«ChFAck_C») (m .«ChFAck_C_e») e) at p))
@@ -67,20 +67,20 @@ row-fault m f at faults s h p =
     (λ y z e. rw (z, simp y at p) (asked (m .«ChFAck_C») (m .«ChFAck_C_e») (m .«ChFAckReq_S») e))
 
 received-fault : (m : Master) (r : Row) (at : ℕ) (f : Response) (s : Fault) → Held m → s ≡ standing m
-    → cond (isTaken m f && isFaulty m f) Open (cond (isTaken m f) (answeredBy (m .«ChFAck_C») s) s) ≡ standing (received m r at f .master)
+    → cond (isAdmitted m f && isFaulty m f) Open (cond (isAdmitted m f) (answeredBy (m .«ChFAck_C») s) s) ≡ standing (received m r at f .master)
 unfolding received arrived quiet
-received-fault m r at f s h p = go (isTaken m f)
+received-fault m r at f s h p = go (isAdmitted m f)
   where
     go : (b : Bool) → cond (b && isFaulty m f) Open (cond b (answeredBy (m .«ChFAck_C») s) s) ≡ standing (cond b (arrived m r at f (checked m f)) (quiet m r (isOld m f)) .master)
     go true = rw (faulty-is m f) (row-fault m f at (hasFaults (isFailure (checked m f)) f) s h p)
     go false = p
 
-step-fault : (m : Master) (w : ℕ) (h : Happening) (k : Signals) (s : Fault) → HoldsSignals k m → Held m → s ≡ standing (judged m w (readingOf h))
-    → let j = judged m w (readingOf h) in
-    cond (faultyBy j h) Open (cond (takenBy j h) (answeredBy (k .«ChFAck_C») s) s) ≡ standing (stepOf m w h .master)
-unfolding stepOf watched operated quiet signalled faultyBy takenBy
+step-fault : (m : Master) (w : ℕ) (h : Happening) (k : Signals) (s : Fault) → HasSignals k m → Held m → s ≡ standing (watched m w (readingOf h))
+    → let j = watched m w (readingOf h) in
+    cond (faultyBy j h) Open (cond (admittedBy j h) (answeredBy (k .«ChFAck_C») s) s) ≡ standing (stepOf m w h .master)
+unfolding stepOf clocked operated quiet signalled faultyBy admittedBy
 step-fault m w (happening.Response at f) k s c i p =
-    rw (sym (judged-signals m w at c .1)) (received-fault (judged m w at) (watchdogRow m w at) at f s (judged-held m w at i) p)
+    rw (sym (watched-signals m w at c .1)) (received-fault (watched m w at) (watchdogRow m w at) at f s (watched-held m w at i) p)
 step-fault m w (happening.Request at q) k s c i p = p
 step-fault m w (happening.Clock at) k s c i p = p
 step-fault m w (happening.Operator at «setSD_C» «ChFAck_C») k s c i p = p
@@ -95,12 +95,12 @@ requested-as false edge request n y = n refl
 
 module _ (at w : ℕ) where
   stands : (past : List Happening) → fault at w past ≡ standing (masterAfter at w past)
-  unfolding masterAfter fault judgedIn
+  unfolding masterAfter fault watchedIn
   stands [] = refl
   stands (h ∷ past) =
       let m = masterAfter at w past in
       step-fault m w h (signals past) _ (signals-hold at w past) (always-held at w past)
-      (judged-fault m w (readingOf h) (fault at w past) (always-held at w past) (timer-runs at w past) (stands past))
+      (watched-fault m w (readingOf h) (fault at w past) (always-held at w past) (timer-runs at w past) (stands past))
 
   -- ChFAckReq_S is 1 exactly where it was asked for and not yet acknowledged.
   pub requested : (past : List Happening) → masterAfter at w past .«ChFAckReq_S» ≡ isRequested (fault at w past)
@@ -125,45 +125,45 @@ module _ (at w : ℕ) where
       go true s = let h = always-held at w past in (h .sent s, h .set (h .sent s))
       go false s = absurd (faulty (simp s at (stands past)))
 
--- while none is, it is the setSD_C that stood when the last response was taken.
+-- while none is, it is the setSD_C there was when the last response was admitted.
 
 abbrev SetBy : Master → Bool → Type 0
 SetBy m b = eqb (m .state) 7 ≡ false → m .setSD ≡ b
 
-judged-set : (m : Master) (w at : ℕ) (b : Bool) → SetBy m b → SetBy (judged m w at) b
-unfolding judged acted t8 t14
-judged-set m w at b s = timeout-case (λ (r : Row). SetBy (acted m r at false) b) m w at s (λ _ e. no e) (λ _ e. no e)
+watched-set : (m : Master) (w at : ℕ) (b : Bool) → SetBy m b → SetBy (watched m w at) b
+unfolding watched acted t8 t14
+watched-set m w at b s = timeout-case (λ (r : Row). SetBy (acted m r at false) b) m w at s (λ _ e. no e) (λ _ e. no e)
 
-received-set : (m : Master) (r : Row) (at : ℕ) (f : Response) (b : Bool) → SetBy m b → SetBy (received m r at f .master) (cond (isTaken m f) (m .«setSD_C») b)
-unfolding received arrived quiet acted taken t4 t7 t11 t12 t13
+received-set : (m : Master) (r : Row) (at : ℕ) (f : Response) (b : Bool) → SetBy m b → SetBy (received m r at f .master) (cond (isAdmitted m f) (m .«setSD_C») b)
+unfolding received arrived quiet acted admitted t4 t7 t11 t12 t13
 received-set m r at f b s =
-    cond-both (λ (o : Outcome) (x : Bool). SetBy (o .master) x) (isTaken m f)
-    (row-case (λ (x : Row). SetBy (acted (taken m f) x at (f .SDset)) (m .«setSD_C»)) m (hasFaults (isFailure (checked m f)) f)
+    cond-both (λ (o : Outcome) (x : Bool). SetBy (o .master) x) (isAdmitted m f)
+    (row-case (λ (x : Row). SetBy (acted (admitted m f) x at (f .SDset)) (m .«setSD_C»)) m (hasFaults (isFailure (checked m f)) f)
     (λ _ _ _. refl) (λ _ _ e. no e) (λ _ _ _ _. refl) (λ _ _ e. no e) (λ _ _ _ e. no e))
     s
 
-step-set : (m : Master) (w : ℕ) (h : Happening) (k : Signals) (b : Bool) → HoldsSignals k m → SetBy m b
-    → SetBy (stepOf m w h .master) (cond (takenBy (judged m w (readingOf h)) h) (k .«setSD_C») b)
-unfolding stepOf watched operated quiet signalled takenBy
+step-set : (m : Master) (w : ℕ) (h : Happening) (k : Signals) (b : Bool) → HasSignals k m → SetBy m b
+    → SetBy (stepOf m w h .master) (cond (admittedBy (watched m w (readingOf h)) h) (k .«setSD_C») b)
+unfolding stepOf clocked operated quiet signalled admittedBy
 step-set m w (happening.Response at f) k b c s =
-    rw (sym (judged-signals m w at c .0)) (received-set (judged m w at) (watchdogRow m w at) at f b (judged-set m w at b s))
-step-set m w (happening.Request at q) k b c s = judged-set m w at b s
-step-set m w (happening.Clock at) k b c s = judged-set m w at b s
-step-set m w (happening.Operator at «setSD_C» «ChFAck_C») k b c s = judged-set m w at b s
+    rw (sym (watched-signals m w at c .0)) (received-set (watched m w at) (watchdogRow m w at) at f b (watched-set m w at b s))
+step-set m w (happening.Request at q) k b c s = watched-set m w at b s
+step-set m w (happening.Clock at) k b c s = watched-set m w at b s
+step-set m w (happening.Operator at «setSD_C» «ChFAck_C») k b c s = watched-set m w at b s
 
 module _ (at w : ℕ) where
-  set-by : (past : List Happening) → SetBy (masterAfter at w past) (setWhenTaken at w past)
-  unfolding masterAfter setWhenTaken judgedIn
+  set-by : (past : List Happening) → SetBy (masterAfter at w past) (setWhenAdmitted at w past)
+  unfolding masterAfter setWhenAdmitted watchedIn
   set-by [] e = refl
-  set-by (h ∷ past) e = step-set (masterAfter at w past) w h (signals past) (setWhenTaken at w past) (signals-hold at w past) (set-by past) e
+  set-by (h ∷ past) e = step-set (masterAfter at w past) w h (signals past) (setWhenAdmitted at w past) (signals-hold at w past) (set-by past) e
 
-  pub sends-asked : (past : List Happening) → fault at w past ≡ None → masterAfter at w past .setSD ≡ setWhenTaken at w past
+  pub sends-asked : (past : List Happening) → fault at w past ≡ None → masterAfter at w past .setSD ≡ setWhenAdmitted at w past
   sends-asked past e = go (eqb (masterAfter at w past .state) 7) refl
     where
       m : Master
       m = masterAfter at w past
 
-      go : (b : Bool) → eqb (m .state) 7 ≡ b → m .setSD ≡ setWhenTaken at w past
+      go : (b : Bool) → eqb (m .state) 7 ≡ b → m .setSD ≡ setWhenAdmitted at w past
       go true s = no (opened (m .«ChFAck_C_e») (m .«ChFAckReq_S») (sym (simp s at (stands at w past)) ∙ e))
       go false s = set-by past s
 
@@ -188,17 +188,17 @@ opens-late m w at h outside = go (timesOut m w at) refl
     go true e = late-opens (m .state) (h .rests) (not-true (eqb (m .state) 2) (sym outside ∙ and-left (m .runs) (expiredOf at (m .MTimer) w) e))
     go false e = refl
 
-received-opens : (m : Master) (r : Row) (at : ℕ) (f : Response) → opens (received m r at f .arrival) ≡ (isTaken m f && isFaulty m f)
+received-opens : (m : Master) (r : Row) (at : ℕ) (f : Response) → opens (received m r at f .arrival) ≡ (isAdmitted m f && isFaulty m f)
 unfolding received arrived quiet
-received-opens m r at f = go (isTaken m f)
+received-opens m r at f = go (isAdmitted m f)
   where
     go : (b : Bool) → opens (cond b (arrived m r at f (checked m f)) (quiet m r (isOld m f)) .arrival) ≡ (b && isFaulty m f)
     go true = rw (faulty-is m f) (row-opens m (hasFaults (isFailure (checked m f)) f))
     go false = refl
 
-step-opens : (m : Master) (w : ℕ) (h : Happening) → opens (stepOf m w h .arrival) ≡ faultyBy (judged m w (readingOf h)) h
-unfolding stepOf watched operated quiet faultyBy
-step-opens m w (happening.Response at f) = received-opens (judged m w at) (watchdogRow m w at) at f
+step-opens : (m : Master) (w : ℕ) (h : Happening) → opens (stepOf m w h .arrival) ≡ faultyBy (watched m w (readingOf h)) h
+unfolding stepOf clocked operated quiet faultyBy
+step-opens m w (happening.Response at f) = received-opens (watched m w at) (watchdogRow m w at) at f
 step-opens m w (happening.Request at q) = refl
 step-opens m w (happening.Clock at) = refl
 step-opens m w (happening.Operator at «setSD_C» «ChFAck_C») = refl
@@ -207,6 +207,6 @@ module _ (at w : ℕ) (past : List Happening) (h : Happening) where
   pub timeout-rows : opens (stepOf (masterAfter at w past) w h .watchdog) ≡ timesOut (masterAfter at w past) w (readingOf h)
   timeout-rows = ap opens (step-watchdog (masterAfter at w past) w h) ∙ opens-late (masterAfter at w past) w (readingOf h) (always-held at w past) (timer-runs at w past)
 
-  pub faulty-rows : opens (stepOf (masterAfter at w past) w h .arrival) ≡ faultyBy (judgedIn at w past h) h
-  unfolding judgedIn
+  pub faulty-rows : opens (stepOf (masterAfter at w past) w h .arrival) ≡ faultyBy (watchedIn at w past h) h
+  unfolding watchedIn
   faulty-rows = step-opens (masterAfter at w past) w h

@@ -1,5 +1,5 @@
 -- Nothing is promised of nothing: a worked course of happenings after an accepted block, computed, in which every row of 000 Table 38, every check,
--- every mark and every standing of a fault arises, and the premises of the theorems are met. Assumes nothing.
+-- every mark and every stage of a fault arises, and the premises of the theorems are met. Assumes nothing.
 use Prim.Native.Nat.{ℕ, _-_, _≤_}
 use native.Mathlib.Omega.{arith}
 use mathlib.Core.Path.{_≡_, refl, sym}
@@ -9,7 +9,7 @@ use mathlib.Core.List.{List, [], _∷_, map}
 use lib.ListN.{drop}
 use Rattle.scl.specs.Time.{elapsedOf}
 use Rattle.scl.specs.Readings.{lastReading}
-use Rattle.scl.specs.Moved.{movedHappening, movedPast, OnClock, none, more}
+use Rattle.scl.specs.Delayed.{delayedHappening, delayedPast, OnClock, none, more}
 use Rattle.scl.specs.declared.Happening.{Happening}
 use Rattle.scl.specs.declared.Happening.the-variants as happening
 use Rattle.scl.specs.declared.Response.{Response}
@@ -22,9 +22,9 @@ use Rattle.scl.proofs.Cases.{no}
 use Rattle.fs_master.specs.declared.Master.{Master}
 use Rattle.fs_master.specs.declared.Row.{Row}
 use Rattle.fs_master.specs.declared.Row.the-variants.{Stay, T4, T7, T8, T11, T12, T13, T14}
-use Rattle.fs_master.specs.Table38.{watchdogRow, isOld, isTaken, checked, from8, arrivalRow, taken, sampleFrom, t4, t7, t8, t11, t12, t13, t14, acted, signalled, rowNumberOf}
-use Rattle.fs_master.specs.Calls.{judged, quiet, arrived, received, watched, operated, stepOf}
-use Rattle.fs_master.specs.History.{FreshBy, Held, masterAfter, judgedIn, passesBy, hasPassed, movedMaster, movedOutcome, signalsAfter, signals, takenBy, faultyBy, Fault, None, Open, Pressed, Asked, answeredBy, fault, lastRow, lastTakenAt, previousBy, lastTaken, isOldAfter, setWhenTaken}
+use Rattle.fs_master.specs.Table38.{watchdogRow, isOld, isAdmitted, checked, from8, arrivalRow, admitted, startFrom, t4, t7, t8, t11, t12, t13, t14, acted, signalled, rowNumberOf}
+use Rattle.fs_master.specs.Calls.{watched, quiet, arrived, received, clocked, operated, stepOf}
+use Rattle.fs_master.specs.History.{FreshBy, Held, masterAfter, watchedIn, passesBy, hasPassed, delayedMaster, delayedOutcome, signalsAfter, signals, admittedBy, faultyBy, Fault, None, Open, Pressed, Asked, answeredBy, fault, lastRow, lastAdmittedAt, previousBy, lastAdmitted, isOldAfter, setWhenAdmitted}
 use Rattle.fs_master.specs.Regular.{isRegular}
 use Rattle.fs_master.proofs.Rows as rows
 use Rattle.fs_master.proofs.Release as release
@@ -32,8 +32,8 @@ use Rattle.fs_master.proofs.Acknowledge as acknowledge
 use Rattle.fs_master.proofs.Watchdog as watchdog
 use Rattle.fs_master.proofs.Counts as counts
 use Rattle.fs_master.proofs.Faults as faults
-use Rattle.fs_master.proofs.Taken as taking
-use Rattle.fs_master.proofs.Moved as moving
+use Rattle.fs_master.proofs.Admitted as taking
+use Rattle.fs_master.proofs.Delayed as moving
 use Rattle.fs_master.proofs.Regulars as regulars
 
 -- a response of this DCount_i, with SDset, DCommErr, DTimeout, and whether port and signature hold
@@ -137,7 +137,7 @@ table =
     ∷ line (happening.Response 340 (set 5)) Stay T4 check.None true false Safe None (sends 3 false false)
     ∷ line (happening.Response 330 (good 6)) Stay T11 check.None true false Fresh None (sends 2 false false)
     ∷ line (happening.Operator 320 false true) Stay Stay check.None false false Safe Asked (sends 1 true true)
-    -- taken though old, as MCount is 0 in state 7 (R14)
+    -- admitted though old, as MCount is 0 in state 7 (R14)
     ∷ line (happening.Response 310 (good 7)) Stay T13 check.None true true Safe Asked (sends 1 true true)
     ∷ line (happening.Clock 300) T14 Stay check.None false false Safe Open (sends 0 true false)
     -- 101 ms after the response, whatever the operator did meanwhile
@@ -161,7 +161,7 @@ seen (h ∷ past) =
     line h (o .watchdog) (o .arrival) (o .check) (o .passed) (o .old) (o .mark) (fault 0 100 (h ∷ past)) (sends (m .MCount) (m .setSD) (m .ChFAckReq)) ∷ seen past
 
 pub course-arises : seen course ≡ table
-unfolding judgedIn seen masterAfter fault takenBy faultyBy answeredBy signals signalsAfter stepOf watched operated quiet received arrived judged acted t4 t7 t8 t11 t12 t13 t14 taken isOld isTaken checked from8 arrivalRow watchdogRow signalled sampleFrom elapsedOf
+unfolding watchedIn seen masterAfter fault admittedBy faultyBy answeredBy signals signalsAfter stepOf clocked operated quiet received arrived watched acted t4 t7 t8 t11 t12 t13 t14 admitted isOld isAdmitted checked from8 arrivalRow watchdogRow signalled startFrom elapsedOf
 course-arises = refl
 
 -- the first n calls, and the FS-Master after them
@@ -188,59 +188,59 @@ pub record Met : Type 0 where
   fresh-if : stepOf (after 1) 100 releasing .mark ≡ Fresh
   fresh-if-again : stepOf (after 9) 100 releasingAgain .mark ≡ Fresh
   release-begins : (stepOf (after 9) 100 releasingAgain .mark ≡ Fresh) ⊎ (after 9 .released ≡ true)
-  taken-in-2 : isTaken (judgedIn 0 100 (first 1) releasing) (good 7) ≡ true
-  taken-in-5 : isTaken (judgedIn 0 100 (first 3) (happening.Clock 30)) (good 7) ≡ false
-  taken-in-7 : isTaken (judgedIn 0 100 (first 17) (happening.Clock 410)) (good 1) ≡ false
-  taken-again : isTaken (judgedIn 0 100 (first 7) (happening.Clock 310)) (good 7) ≡ true
-  all-zero : isTaken (after 18) zeros ≡ false
-  discarded : stepOf (after 16) 100 (happening.Response 400 (good 4)) .master ≡ judged (after 16) 100 400
+  admitted-in-2 : isAdmitted (watchedIn 0 100 (first 1) releasing) (good 7) ≡ true
+  admitted-in-5 : isAdmitted (watchedIn 0 100 (first 3) (happening.Clock 30)) (good 7) ≡ false
+  admitted-in-7 : isAdmitted (watchedIn 0 100 (first 17) (happening.Clock 410)) (good 1) ≡ false
+  admitted-again : isAdmitted (watchedIn 0 100 (first 7) (happening.Clock 310)) (good 7) ≡ true
+  all-zero : isAdmitted (after 18) zeros ≡ false
+  discarded : stepOf (after 16) 100 (happening.Response 400 (good 4)) .master ≡ watched (after 16) 100 400
   faulty-safe : let o = stepOf (after 11) 100 (happening.Response 350 (damaged 4)) in (o .mark ≡ Safe) × (o .master .released ≡ false)
   reported-safe : let o = stepOf (after 28) 100 (happening.Response 520 (late 1)) in (o .mark ≡ Safe) × (o .master .released ≡ false)
-  another-count : stepOf (after 9) 100 releasingAgain .master .MCount ≡ judged (after 9) 100 330 .MCount → ⊥
+  another-count : stepOf (after 9) 100 releasingAgain .master .MCount ≡ watched (after 9) 100 330 .MCount → ⊥
   count-below : stepOf (after 9) 100 releasingAgain .master .MCount ≤ 7
   held : Held (stepOf (after 0) 100 releasing .master)
   in-time : watchdogRow (after 2) 100 20 ≡ Stay
   is-regular : isRegular (after 10) 100 340 (set 5) ≡ true
-  regular-step : stepOf (after 10) 100 (happening.Response 340 (set 5)) ≡ record { master = t4 (taken (after 10) (set 5)) 340 true; watchdog = Stay; arrival = T4; check = check.None; old = false; passed = true; sent = 330; mark = Safe }
-  moved-step : stepOf (movedMaster 5 (after 2)) 100 (movedHappening 5 (happening.Clock 20)) ≡ movedOutcome 5 (stepOf (after 2) 100 (happening.Clock 20))
-  moved-after : masterAfter 4294967281 100 (movedPast 4294967281 (first 3)) ≡ movedMaster 4294967281 (after 3)
+  regular-step : stepOf (after 10) 100 (happening.Response 340 (set 5)) ≡ record { master = t4 (admitted (after 10) (set 5)) 340 true; watchdog = Stay; arrival = T4; check = check.None; old = false; passed = true; sent = 330; mark = Safe }
+  delayed-step : stepOf (delayedMaster 5 (after 2)) 100 (delayedHappening 5 (happening.Clock 20)) ≡ delayedOutcome 5 (stepOf (after 2) 100 (happening.Clock 20))
+  delayed-after : masterAfter 4294967281 100 (delayedPast 4294967281 (first 3)) ≡ delayedMaster 4294967281 (after 3)
   acknowledged : fault 0 100 (first 10) ≡ None
   passed-first : hasPassed 0 100 (first 2) ≡ true
   late-silent : after 6 .released ≡ false
-  released-in-time : elapsedOf 20 (lastTakenAt 0 100 (first 3)) ≤ 100
+  released-in-time : elapsedOf 20 (lastAdmittedAt 0 100 (first 3)) ≤ 100
   sends-safe : (after 12 .setSD ≡ true) × (after 12 .«SDset_S» ≡ true)
   sends-asked : after 26 .setSD ≡ true
 
--- what the theorems' words come to: nothing has passed before the first response that does; only a response that is taken moves the reading of the
+-- what the theorems' words come to: nothing has passed before the first response that does; only a response that is admitted changes the reading of the
 -- last one, neither the clock nor one that is old; and the numbers of the rows outside are 000's
 pub record Words : Type 0 where
   not-yet : hasPassed 0 100 (first 1) ≡ false
-  taken-at : lastTakenAt 0 100 (first 5) ≡ 10
+  admitted-at : lastAdmittedAt 0 100 (first 5) ≡ 10
   row-at : lastRow 0 100 (first 6) ≡ 111
   numbers : map rowNumberOf (Stay ∷ T4 ∷ T7 ∷ T8 ∷ T11 ∷ T12 ∷ T13 ∷ T14 ∷ []) ≡ 0 ∷ 4 ∷ 7 ∷ 8 ∷ 11 ∷ 12 ∷ 13 ∷ 14 ∷ []
 
 pub words : Words
-unfolding hasPassed passesBy lastReading judgedIn masterAfter stepOf watched operated quiet received arrived judged acted t4 t8 taken isOld isTaken checked from8 arrivalRow watchdogRow signalled sampleFrom elapsedOf
-words = record { not-yet = refl; taken-at = refl; row-at = refl; numbers = refl }
+unfolding hasPassed passesBy lastReading watchedIn masterAfter stepOf clocked operated quiet received arrived watched acted t4 t8 admitted isOld isAdmitted checked from8 arrivalRow watchdogRow signalled startFrom elapsedOf
+words = record { not-yet = refl; admitted-at = refl; row-at = refl; numbers = refl }
 
 opened : Open ≡ None → true ≡ false
 opened e = let z : _≡_ {A = ℕ} 0 1 = cc in absurd (omega arith)
 
 pub premises-met : Met
-unfolding isRegular setWhenTaken lastTaken previousBy isOldAfter judgedIn masterAfter fault takenBy faultyBy answeredBy signals signalsAfter stepOf watched operated quiet received arrived judged acted t4 t7 t8 t11 t12 t13 t14 taken isOld isTaken checked from8 arrivalRow watchdogRow signalled sampleFrom elapsedOf
+unfolding isRegular setWhenAdmitted lastAdmitted previousBy isOldAfter watchedIn masterAfter fault admittedBy faultyBy answeredBy signals signalsAfter stepOf clocked operated quiet received arrived watched acted t4 t7 t8 t11 t12 t13 t14 admitted isOld isAdmitted checked from8 arrivalRow watchdogRow signalled startFrom elapsedOf
 premises-met = record {
   fresh-only = release.fresh-only (after 1) 100 releasing refl;
   fresh-if =
       release.fresh-if (after 1) 100 10 (good 7)
-      (record { taken = refl; signature = refl; port = refl; count = refl; no-error = refl; no-timeout = refl; not-set = refl; not-asked = refl; acknowledged = λ e. no (sym e) });
+      (record { admitted = refl; signature = refl; port = refl; count = refl; no-error = refl; no-timeout = refl; not-set = refl; not-asked = refl; acknowledged = λ e. no (sym e) });
   fresh-if-again =
       release.fresh-if (after 9) 100 330 (good 6)
-      (record { taken = refl; signature = refl; port = refl; count = refl; no-error = refl; no-timeout = refl; not-set = refl; not-asked = refl; acknowledged = λ _. refl });
+      (record { admitted = refl; signature = refl; port = refl; count = refl; no-error = refl; no-timeout = refl; not-set = refl; not-asked = refl; acknowledged = λ _. refl });
   release-begins = release.release-begins (after 9) 100 releasingAgain refl;
-  taken-in-2 = taking.taken-in-2 0 100 (first 1) releasing (good 7) refl;
-  taken-in-5 = taking.taken-in-5 0 100 (first 3) (happening.Clock 30) (good 7) refl;
-  taken-in-7 = taking.taken-in-7 0 100 (first 17) (happening.Clock 410) (good 1) refl;
-  taken-again = taking.taken-in-7 0 100 (first 7) (happening.Clock 310) (good 7) refl;
+  admitted-in-2 = taking.admitted-in-2 0 100 (first 1) releasing (good 7) refl;
+  admitted-in-5 = taking.admitted-in-5 0 100 (first 3) (happening.Clock 30) (good 7) refl;
+  admitted-in-7 = taking.admitted-in-7 0 100 (first 17) (happening.Clock 410) (good 1) refl;
+  admitted-again = taking.admitted-in-7 0 100 (first 7) (happening.Clock 310) (good 7) refl;
   all-zero = faults.all-zero (after 18) zeros refl;
   discarded = faults.discarded (after 16) 100 400 (good 4) refl;
   faulty-safe = faults.faulty-safe (after 11) 100 350 (damaged 4) refl refl;
@@ -251,8 +251,8 @@ premises-met = record {
   in-time = rows.in-time (after 2) 100 20 (omega arith);
   is-regular = refl;
   regular-step = regulars.regular-step (after 10) 100 340 (set 5) refl;
-  moved-step = moving.moved-step 5 (after 2) 100 (happening.Clock 20) (omega arith) (omega arith);
-  moved-after = moving.moved-after 4294967281 0 100 (omega arith) on-clock;
+  delayed-step = moving.delayed-step 5 (after 2) 100 (happening.Clock 20) (omega arith) (omega arith);
+  delayed-after = moving.delayed-after 4294967281 0 100 (omega arith) on-clock;
   acknowledged = acknowledge.acknowledged 0 100 (first 10) refl;
   passed-first = release.passed-first 0 100 (first 2) refl;
   late-silent = watchdog.late 0 100 (first 5) (happening.Clock 111) refl (omega arith);

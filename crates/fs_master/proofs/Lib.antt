@@ -2,11 +2,11 @@ pub mod Rows
 pub mod Release
 pub mod Counts
 pub mod Samples
-pub mod Taken
+pub mod Admitted
 pub mod Regulars
 pub mod Signals
 pub mod Watchdog
 pub mod Acknowledge
 pub mod Arises
 pub mod Faults
-pub mod Moved
+pub mod Delayed

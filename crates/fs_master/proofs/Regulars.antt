@@ -12,8 +12,8 @@ use Rattle.scl.specs.declared.Response.{Response}
 use Rattle.scl.proofs.Cases.{and-left, and-right, or-left, or-right, no}
 use Rattle.fs_master.specs.declared.Master.{Master}
 use Rattle.fs_master.specs.declared.Row.the-variants.{Stay, T4}
-use Rattle.fs_master.specs.Table38.{watchdogRow, isOld, isExpected, isTaken, checked, arrivalRow, taken, t4, acted}
-use Rattle.fs_master.specs.Calls.{judged, arrived, received, stepOf}
+use Rattle.fs_master.specs.Table38.{watchdogRow, isOld, isExpected, isAdmitted, checked, arrivalRow, admitted, t4, acted}
+use Rattle.fs_master.specs.Calls.{watched, arrived, received, stepOf}
 use Rattle.fs_master.specs.Regular.{isRegular}
 
 -- what isRegular asks, one by one
@@ -62,15 +62,15 @@ waits-case P false five e p q = rw e q
 not-7 : (n : ℕ) → (eqb n 2 || eqb n 5) ≡ true → eqb n 7 ≡ false
 not-7 n e = ne-eqb n 7 (λ s. let z : (eqb 7 2 || eqb 7 5) ≡ true = rw s at e in no (cc))
 
-is-taken : (m : Master) (w at : ℕ) (f : Response) → Asked m w at f → isTaken m f ≡ true
-unfolding isTaken
-is-taken m w at f a =
+is-admitted : (m : Master) (w at : ℕ) (f : Response) → Asked m w at f → isAdmitted m f ≡ true
+unfolding isAdmitted
+is-admitted m w at f a =
     simp (a .not-zero, a .count, a .not-old)
     (waits-case (λ (two five : Bool). (two && true || five && true || eqb (m .state) 7 && true) ≡ true) (eqb (m .state) 2) (eqb (m .state) 5) (a .waits) refl refl)
 
--- A regular call takes no row but T4, and what it makes of the master is that row's.
-pub regular-step : (m : Master) (w at : ℕ) (f : Response) → isRegular m w at f ≡ true → stepOf m w (happening.Response at f) ≡ record { master = t4 (taken m f) at (f .SDset); watchdog = Stay; arrival = T4; check = check.None; old = false; passed = true; sent = m .sample; mark = markOf true (t4 (taken m f) at (f .SDset) .released) }
-unfolding stepOf judged watchdogRow received arrived checked arrivalRow acted
+-- A regular call has no row but T4, and what it makes of the master is that row's.
+pub regular-step : (m : Master) (w at : ℕ) (f : Response) → isRegular m w at f ≡ true → stepOf m w (happening.Response at f) ≡ record { master = t4 (admitted m f) at (f .SDset); watchdog = Stay; arrival = T4; check = check.None; old = false; passed = true; sent = m .start; mark = markOf true (t4 (admitted m f) at (f .SDset) .released) }
+unfolding stepOf watched watchdogRow received arrived checked arrivalRow acted
 regular-step m w at f e =
     let a = asked m w at f e in
-    simp (a .in-time, is-taken m w at f a, a .signature, a .port, a .count, a .no-error, a .no-timeout, a .not-old, not-7 (m .state) (a .waits))
+    simp (a .in-time, is-admitted m w at f a, a .signature, a .port, a .count, a .no-error, a .no-timeout, a .not-old, not-7 (m .state) (a .waits))

@@ -15,21 +15,21 @@ use Rattle.fs_master.specs.declared.Master.{Master}
 use Rattle.fs_master.specs.declared.Outcome.{Outcome}
 use Rattle.fs_master.specs.declared.Row.{Row}
 use Rattle.fs_master.specs.declared.Row.the-variants.{Stay, T4, T7, T8, T11, T12, T13, T14}
-use Rattle.fs_master.specs.Table38.{watchdogRow, isOld, isTaken, hasFaults, checked, isExpected, arrivalRow, taken, sampleFrom, t4, t7, t8, t11, t12, t13, t14, acted, signalled}
-use Rattle.fs_master.specs.Calls.{judged, quiet, arrived, received, watched, operated, stepOf}
+use Rattle.fs_master.specs.Table38.{watchdogRow, isOld, isAdmitted, hasFaults, checked, isExpected, arrivalRow, admitted, startFrom, t4, t7, t8, t11, t12, t13, t14, acted, signalled}
+use Rattle.fs_master.specs.Calls.{watched, quiet, arrived, received, clocked, operated, stepOf}
 use Rattle.fs_master.specs.History.{sound, passesBy}
 
 -- ---- the start
 
 -- it is kept while the count is the same, and is the call's reading where the count takes another value
 abbrev startAfter : Master → ℕ → ℕ → ℕ
-startAfter m count at = cond (eqb count (m .MCount)) (m .sample) at
+startAfter m count at = cond (eqb count (m .MCount)) (m .start) at
 
-stays : (m : Master) (at : ℕ) → m .sample ≡ startAfter m (m .MCount) at
+stays : (m : Master) (at : ℕ) → m .start ≡ startAfter m (m .MCount) at
 stays m at = simp (eq-eqb (m .MCount) (m .MCount) refl)
 
-acted-start : (m : Master) (r : Row) (at : ℕ) (SDset : Bool) → acted m r at SDset .sample ≡ startAfter m (acted m r at SDset .MCount) at
-unfolding acted sampleFrom t4 t7 t8 t11 t12 t13 t14
+acted-start : (m : Master) (r : Row) (at : ℕ) (SDset : Bool) → acted m r at SDset .start ≡ startAfter m (acted m r at SDset .MCount) at
+unfolding acted startFrom t4 t7 t8 t11 t12 t13 t14
 acted-start m Stay at SDset = stays m at
 acted-start m T4 at SDset = refl
 acted-start m T7 at SDset = refl
@@ -39,37 +39,37 @@ acted-start m T12 at SDset = refl
 acted-start m T13 at SDset = refl
 acted-start m T14 at SDset = refl
 
-pub judged-start : (m : Master) (w at : ℕ) → judged m w at .sample ≡ startAfter m (judged m w at .MCount) at
-unfolding judged
-judged-start m w at = acted-start m (watchdogRow m w at) at false
+pub watched-start : (m : Master) (w at : ℕ) → watched m w at .start ≡ startAfter m (watched m w at .MCount) at
+unfolding watched
+watched-start m w at = acted-start m (watchdogRow m w at) at false
 
-arrived-start : (m : Master) (f : Response) (r : Row) (at : ℕ) → acted (taken m f) r at (f .SDset) .sample ≡ startAfter m (acted (taken m f) r at (f .SDset) .MCount) at
-unfolding taken
-arrived-start m f r at = acted-start (taken m f) r at (f .SDset)
+arrived-start : (m : Master) (f : Response) (r : Row) (at : ℕ) → acted (admitted m f) r at (f .SDset) .start ≡ startAfter m (acted (admitted m f) r at (f .SDset) .MCount) at
+unfolding admitted
+arrived-start m f r at = acted-start (admitted m f) r at (f .SDset)
 
-received-start : (m : Master) (r : Row) (at : ℕ) (f : Response) → received m r at f .master .sample ≡ startAfter m (received m r at f .master .MCount) at
+received-start : (m : Master) (r : Row) (at : ℕ) (f : Response) → received m r at f .master .start ≡ startAfter m (received m r at f .master .MCount) at
 unfolding received arrived quiet
 received-start m r at f =
-    cond-case (λ (o : Outcome). o .master .sample ≡ startAfter m (o .master .MCount) at) (isTaken m f) {x = arrived m r at f (checked m f)} {y = quiet m r (isOld m f)}
+    cond-case (λ (o : Outcome). o .master .start ≡ startAfter m (o .master .MCount) at) (isAdmitted m f) {x = arrived m r at f (checked m f)} {y = quiet m r (isOld m f)}
     (λ _. arrived-start m f (arrivalRow m (hasFaults (isFailure (checked m f)) f)) at)
     (λ _. stays m at)
 
-pub step-start : (m : Master) (w : ℕ) (h : Happening) → stepOf m w h .master .sample ≡ startAfter (judged m w (readingOf h)) (stepOf m w h .master .MCount) (readingOf h)
-unfolding stepOf watched operated quiet signalled
-step-start m w (happening.Response at f) = received-start (judged m w at) (watchdogRow m w at) at f
-step-start m w (happening.Request at q) = stays (judged m w at) at
-step-start m w (happening.Clock at) = stays (judged m w at) at
-step-start m w (happening.Operator at «setSD_C» «ChFAck_C») = stays (judged m w at) at
+pub step-start : (m : Master) (w : ℕ) (h : Happening) → stepOf m w h .master .start ≡ startAfter (watched m w (readingOf h)) (stepOf m w h .master .MCount) (readingOf h)
+unfolding stepOf clocked operated quiet signalled
+step-start m w (happening.Response at f) = received-start (watched m w at) (watchdogRow m w at) at f
+step-start m w (happening.Request at q) = stays (watched m w at) at
+step-start m w (happening.Clock at) = stays (watched m w at) at
+step-start m w (happening.Operator at «setSD_C» «ChFAck_C») = stays (watched m w at) at
 
--- ---- the start that a response's time runs from: the one that stands once the watchdog has been judged
+-- ---- the start that a response's time runs from: the one that is kept once the watchdog has been looked at
 
-received-sent : (m : Master) (r : Row) (at : ℕ) (f : Response) → received m r at f .sent ≡ m .sample
+received-sent : (m : Master) (r : Row) (at : ℕ) (f : Response) → received m r at f .sent ≡ m .start
 unfolding received arrived quiet
-received-sent m r at f = cond-case (λ (o : Outcome). o .sent ≡ m .sample) (isTaken m f) (λ _. refl) (λ _. refl)
+received-sent m r at f = cond-case (λ (o : Outcome). o .sent ≡ m .start) (isAdmitted m f) (λ _. refl) (λ _. refl)
 
-pub stepOf-sent : (m : Master) (w : ℕ) (h : Happening) → stepOf m w h .sent ≡ judged m w (readingOf h) .sample
-unfolding stepOf watched operated quiet signalled
-stepOf-sent m w (happening.Response at f) = received-sent (judged m w at) (watchdogRow m w at) at f
+pub stepOf-sent : (m : Master) (w : ℕ) (h : Happening) → stepOf m w h .sent ≡ watched m w (readingOf h) .start
+unfolding stepOf clocked operated quiet signalled
+stepOf-sent m w (happening.Response at f) = received-sent (watched m w at) (watchdogRow m w at) at f
 stepOf-sent m w (happening.Request at q) = refl
 stepOf-sent m w (happening.Clock at) = refl
 stepOf-sent m w (happening.Operator at «setSD_C» «ChFAck_C») = refl
@@ -78,31 +78,31 @@ stepOf-sent m w (happening.Operator at «setSD_C» «ChFAck_C») = refl
 
 received-watchdog : (m : Master) (r : Row) (at : ℕ) (f : Response) → received m r at f .watchdog ≡ r
 unfolding received arrived quiet
-received-watchdog m r at f = cond-case (λ (o : Outcome). o .watchdog ≡ r) (isTaken m f) (λ _. refl) (λ _. refl)
+received-watchdog m r at f = cond-case (λ (o : Outcome). o .watchdog ≡ r) (isAdmitted m f) (λ _. refl) (λ _. refl)
 
 pub step-watchdog : (m : Master) (w : ℕ) (h : Happening) → stepOf m w h .watchdog ≡ watchdogRow m w (readingOf h)
-unfolding stepOf watched operated quiet
-step-watchdog m w (happening.Response at f) = received-watchdog (judged m w at) (watchdogRow m w at) at f
+unfolding stepOf clocked operated quiet
+step-watchdog m w (happening.Response at f) = received-watchdog (watched m w at) (watchdogRow m w at) at f
 step-watchdog m w (happening.Request at q) = refl
 step-watchdog m w (happening.Clock at) = refl
 step-watchdog m w (happening.Operator at «setSD_C» «ChFAck_C») = refl
 
 -- ---- what passes
 
-received-passed : (m : Master) (r : Row) (at : ℕ) (f : Response) → received m r at f .passed ≡ (isTaken m f && sound m f)
+received-passed : (m : Master) (r : Row) (at : ℕ) (f : Response) → received m r at f .passed ≡ (isAdmitted m f && sound m f)
 unfolding received arrived quiet checked
-received-passed m r at f = go (isTaken m f)
+received-passed m r at f = go (isAdmitted m f)
   where
     go : (b : Bool) → cond b (arrived m r at f (checked m f)) (quiet m r (isOld m f)) .passed ≡ (b && sound m f)
     go true = passed (f .«signature_holds») (f .«port_holds») (isExpected m f)
     go false = refl
 
-pub step-passed : (m : Master) (w at : ℕ) (f : Response) → stepOf m w (happening.Response at f) .passed ≡ (isTaken (judged m w at) f && sound (judged m w at) f)
+pub step-passed : (m : Master) (w at : ℕ) (f : Response) → stepOf m w (happening.Response at f) .passed ≡ (isAdmitted (watched m w at) f && sound (watched m w at) f)
 unfolding stepOf
-step-passed m w at f = received-passed (judged m w at) (watchdogRow m w at) at f
+step-passed m w at f = received-passed (watched m w at) (watchdogRow m w at) at f
 
-pub passes-as : (m : Master) (w : ℕ) (h : Happening) → passesBy (judged m w (readingOf h)) h ≡ stepOf m w h .passed
-unfolding passesBy stepOf watched operated quiet
+pub passes-as : (m : Master) (w : ℕ) (h : Happening) → passesBy (watched m w (readingOf h)) h ≡ stepOf m w h .passed
+unfolding passesBy stepOf clocked operated quiet
 passes-as m w (happening.Response at f) = sym (step-passed m w at f)
 passes-as m w (happening.Request at q) = refl
 passes-as m w (happening.Clock at) = refl
@@ -110,11 +110,11 @@ passes-as m w (happening.Operator at «setSD_C» «ChFAck_C») = refl
 
 received-old : (m : Master) (r : Row) (at : ℕ) (f : Response) → received m r at f .old ≡ isOld m f
 unfolding received arrived quiet
-received-old m r at f = cond-case (λ (o : Outcome). o .old ≡ isOld m f) (isTaken m f) (λ _. refl) (λ _. refl)
+received-old m r at f = cond-case (λ (o : Outcome). o .old ≡ isOld m f) (isAdmitted m f) (λ _. refl) (λ _. refl)
 
-pub step-old : (m : Master) (w at : ℕ) (f : Response) → stepOf m w (happening.Response at f) .old ≡ isOld (judged m w at) f
+pub step-old : (m : Master) (w at : ℕ) (f : Response) → stepOf m w (happening.Response at f) .old ≡ isOld (watched m w at) f
 unfolding stepOf
-step-old m w at f = received-old (judged m w at) (watchdogRow m w at) at f
+step-old m w at f = received-old (watched m w at) (watchdogRow m w at) at f
 
 -- ---- the previous SPDU
 
@@ -136,19 +136,19 @@ acted-kept m T13 at SDset k = record { previous-is = k .previous-is; carried-is 
 acted-kept m T14 at SDset k = record { previous-is = k .previous-is; carried-is = k .carried-is; awaited-is = k .awaited-is }
 
 -- the watchdog leaves it
-pub judged-kept : (m : Master) (w at : ℕ) {previous : Bool} {carried awaited : ℕ} → Kept previous carried awaited m → Kept previous carried awaited (judged m w at)
-unfolding judged
-judged-kept m w at k = acted-kept m (watchdogRow m w at) at false k
+pub watched-kept : (m : Master) (w at : ℕ) {previous : Bool} {carried awaited : ℕ} → Kept previous carried awaited m → Kept previous carried awaited (watched m w at)
+unfolding watched
+watched-kept m w at k = acted-kept m (watchdogRow m w at) at false k
 
-received-kept : (m : Master) (r : Row) (at : ℕ) (f : Response) {previous : Bool} {carried awaited : ℕ} → Kept previous carried awaited m → Kept (cond (isTaken m f) true previous) (cond (isTaken m f) (f .«DCount_i») carried) (cond (isTaken m f) (inverted (m .MCount)) awaited) (received m r at f .master)
-unfolding received arrived quiet taken
-received-kept m r at f {previous} {carried} {awaited} k = go (isTaken m f)
+received-kept : (m : Master) (r : Row) (at : ℕ) (f : Response) {previous : Bool} {carried awaited : ℕ} → Kept previous carried awaited m → Kept (cond (isAdmitted m f) true previous) (cond (isAdmitted m f) (f .«DCount_i») carried) (cond (isAdmitted m f) (inverted (m .MCount)) awaited) (received m r at f .master)
+unfolding received arrived quiet admitted
+received-kept m r at f {previous} {carried} {awaited} k = go (isAdmitted m f)
   where
     go : (b : Bool) → Kept (cond b true previous) (cond b (f .«DCount_i») carried) (cond b (inverted (m .MCount)) awaited) (cond b (arrived m r at f (checked m f)) (quiet m r (isOld m f)) .master)
-    go true = acted-kept (taken m f) (arrivalRow m (hasFaults (isFailure (checked m f)) f)) at (f .SDset) (record { previous-is = refl; carried-is = refl; awaited-is = refl })
+    go true = acted-kept (admitted m f) (arrivalRow m (hasFaults (isFailure (checked m f)) f)) at (f .SDset) (record { previous-is = refl; carried-is = refl; awaited-is = refl })
     go false = k
 
--- a response that is taken is the previous SPDU from then on; nothing else is
-pub response-kept : (m : Master) (w at : ℕ) (f : Response) {previous : Bool} {carried awaited : ℕ} → Kept previous carried awaited m → Kept (cond (isTaken (judged m w at) f) true previous) (cond (isTaken (judged m w at) f) (f .«DCount_i») carried) (cond (isTaken (judged m w at) f) (inverted (judged m w at .MCount)) awaited) (stepOf m w (happening.Response at f) .master)
+-- a response that is admitted is the previous SPDU from then on; nothing else is
+pub response-kept : (m : Master) (w at : ℕ) (f : Response) {previous : Bool} {carried awaited : ℕ} → Kept previous carried awaited m → Kept (cond (isAdmitted (watched m w at) f) true previous) (cond (isAdmitted (watched m w at) f) (f .«DCount_i») carried) (cond (isAdmitted (watched m w at) f) (inverted (watched m w at .MCount)) awaited) (stepOf m w (happening.Response at f) .master)
 unfolding stepOf
-response-kept m w at f k = received-kept (judged m w at) (watchdogRow m w at) at f (judged-kept m w at k)
+response-kept m w at f k = received-kept (watched m w at) (watchdogRow m w at) at f (watched-kept m w at k)

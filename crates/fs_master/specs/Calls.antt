@@ -1,4 +1,4 @@
--- One happening at the FS-Master: the watchdog is judged with its reading, then an SPDU that came for this end. Assumes nothing.
+-- One happening at the FS-Master: the watchdog is looked at with its reading, then an SPDU that came for this end. Assumes nothing.
 use Prim.Native.Nat.{ℕ}
 use mathlib.Core.Bool.{Bool, true, false, cond, not}
 use Rattle.scl.specs.Happenings.{isFailure, markOf}
@@ -11,11 +11,11 @@ use Rattle.fs_master.specs.declared.Master.{Master}
 use Rattle.fs_master.specs.declared.Outcome.{Outcome}
 use Rattle.fs_master.specs.declared.Row.{Row}
 use Rattle.fs_master.specs.declared.Row.the-variants.{Stay}
-use Rattle.fs_master.specs.Table38.{watchdogRow, isOld, isTaken, checked, hasFaults, arrivalRow, taken, acted, signalled}
+use Rattle.fs_master.specs.Table38.{watchdogRow, isOld, isAdmitted, checked, hasFaults, arrivalRow, admitted, acted, signalled}
 
--- the FS-Master once its watchdog has been judged
-unfoldable pub judged : Master → ℕ → ℕ → Master
-judged m w at = acted m (watchdogRow m w at) at false
+-- the FS-Master once its watchdog has been looked at
+unfoldable pub watched : Master → ℕ → ℕ → Master
+watched m w at = acted m (watchdogRow m w at) at false
 
 -- no SPDU led to a row (R13a): the watchdog's row, and whether one came that was old. A sample's time runs from what is kept after that row (R17)
 unfoldable pub quiet : Master → Row → Bool → Outcome
@@ -26,15 +26,15 @@ quiet m watchdog old = record {
   check = check.None;
   old = old;
   passed = false;
-  sent = m .sample;
+  sent = m .start;
   mark = markOf false (m .released);
 }
 
--- an SPDU that is taken (R14), with the check that failed first; it passes where none did (R14a)
+-- an SPDU that is admitted (R14), with the check that failed first; it passes where none did (R14a)
 unfoldable pub arrived : Master → Row → ℕ → Response → Check → Outcome
 arrived m watchdog at f failed =
     let row = arrivalRow m (hasFaults (isFailure failed) f) in
-    let after = acted (taken m f) row at (f .SDset) in
+    let after = acted (admitted m f) row at (f .SDset) in
     record {
       master = after;
       watchdog = watchdog;
@@ -42,24 +42,24 @@ arrived m watchdog at f failed =
       check = failed;
       old = isOld m f;
       passed = not (isFailure failed);
-      sent = m .sample;
+      sent = m .start;
       mark = markOf true (after .released);
     }
 
--- an SPDU received, at a master whose watchdog has been judged
+-- an SPDU received, at a master whose watchdog has been looked at
 unfoldable pub received : Master → Row → ℕ → Response → Outcome
-received m watchdog at f = cond (isTaken m f) (arrived m watchdog at f (checked m f)) (quiet m watchdog (isOld m f))
+received m watchdog at f = cond (isAdmitted m f) (arrived m watchdog at f (checked m f)) (quiet m watchdog (isOld m f))
 
 -- the clock, and the other end's SPDU
-unfoldable pub watched : Master → ℕ → ℕ → Outcome
-watched m w at = quiet (judged m w at) (watchdogRow m w at) false
+unfoldable pub clocked : Master → ℕ → ℕ → Outcome
+clocked m w at = quiet (watched m w at) (watchdogRow m w at) false
 
 unfoldable pub operated : Master → ℕ → ℕ → Bool → Bool → Outcome
-operated m w at «setSD_C» «ChFAck_C» = quiet (signalled (judged m w at) «setSD_C» «ChFAck_C») (watchdogRow m w at) false
+operated m w at «setSD_C» «ChFAck_C» = quiet (signalled (watched m w at) «setSD_C» «ChFAck_C») (watchdogRow m w at) false
 
--- every happening judges the watchdog first (R11)
+-- every happening looks at the watchdog first (R11)
 unfoldable pub stepOf : Master → ℕ → Happening → Outcome
-stepOf m w (happening.Response at f) = received (judged m w at) (watchdogRow m w at) at f
-stepOf m w (happening.Request at request) = watched m w at
-stepOf m w (happening.Clock at) = watched m w at
+stepOf m w (happening.Response at f) = received (watched m w at) (watchdogRow m w at) at f
+stepOf m w (happening.Request at request) = clocked m w at
+stepOf m w (happening.Clock at) = clocked m w at
 stepOf m w (happening.Operator at «setSD_C» «ChFAck_C») = operated m w at «setSD_C» «ChFAck_C»

@@ -33,7 +33,7 @@ firstMaster at = record {
   awaited = 0;
   MTimer = at;
   runs = false;
-  sample = at;
+  start = at;
   released = false;
 }
 
@@ -57,8 +57,8 @@ unfoldable pub isOld : Master → Response → Bool
 isOld m f = not (f .«all_zero») && m .previous && (eqb (f .«DCount_i») (m .carried) || eqb (f .«DCount_i») (m .awaited))
 
 -- T3 from 2: Expected SPDU. T6 from 5: Not old SPDU. T10 from 7: Not old SPDU, or the expected one where MCount is 0 (R14)
-unfoldable pub isTaken : Master → Response → Bool
-isTaken m f =
+unfoldable pub isAdmitted : Master → Response → Bool
+isAdmitted m f =
     not (f .«all_zero»)
     && (eqb (m .state) 2 && isExpected m f
     || eqb (m .state) 5 && not (isOld m f)
@@ -86,9 +86,9 @@ arrivalRow m faults = cond (eqb (m .state) 7) (from8 m faults) (cond faults T7 T
 
 -- Actions
 
--- T3, T6, T10: the SPDU taken is the previous one from here on (R14)
-unfoldable pub taken : Master → Response → Master
-taken m f = record {
+-- T3, T6, T10: the SPDU admitted is the previous one from here on (R14)
+unfoldable pub admitted : Master → Response → Master
+admitted m f = record {
   previous = true;
   carried = f .«DCount_i»;
   awaited = inverted (m .MCount);
@@ -103,19 +103,19 @@ taken m f = record {
   «ChFAck_C» = m .«ChFAck_C»;
   MTimer = m .MTimer;
   runs = m .runs;
-  sample = m .sample;
+  start = m .start;
   released = m .released;
 }
 
 -- the sample's start: the reading of the row that gives MCount another value (R17)
-unfoldable pub sampleFrom : Master → ℕ → ℕ → ℕ
-sampleFrom m count at = cond (eqb count (m .MCount)) (m .sample) at
+unfoldable pub startFrom : Master → ℕ → ℕ → ℕ
+startFrom m count at = cond (eqb count (m .MCount)) (m .start) at
 
 unfoldable pub t4 : Master → ℕ → Bool → Master
 t4 m at SDset = record {
   -- MCount = MCount + 1, if MCount = 8 then MCount = 1
   MCount = countAfter (m .MCount);
-  sample = sampleFrom m (countAfter (m .MCount)) at;
+  start = startFrom m (countAfter (m .MCount)) at;
   -- if SDset = 1 or setSD_C = 1 then use SDin, SDset_S = 1 else use PDin, SDset_S = 0
   released = not (SDset || m .«setSD_C»);
   «SDset_S» = SDset || m .«setSD_C»;
@@ -144,7 +144,7 @@ t7 m at = record {
   «SDset_S» = true;
   -- MCount = MCount + 1, if MCount = 8 then MCount = 1
   MCount = countAfter (m .MCount);
-  sample = sampleFrom m (countAfter (m .MCount)) at;
+  start = startFrom m (countAfter (m .MCount)) at;
   -- to 6, and by T9 (restart MTimer) to 7
   MTimer = at;
   runs = true;
@@ -168,7 +168,7 @@ t8 m at = record {
   «SDset_S» = true;
   -- MCount = 0
   MCount = 0;
-  sample = sampleFrom m 0 at;
+  start = startFrom m 0 at;
   -- to 6, and by T9 (restart MTimer) to 7
   MTimer = at;
   runs = true;
@@ -192,7 +192,7 @@ t11 m at SDset = record {
   «ChFAck_C_e» = false;
   -- MCount = MCount + 1, if MCount = 8 then MCount = 1
   MCount = countAfter (m .MCount);
-  sample = sampleFrom m (countAfter (m .MCount)) at;
+  start = startFrom m (countAfter (m .MCount)) at;
   -- if SDset = 1 or setSD_C = 1 then use SDin, SDset_S = 1 else use PDin, SDset_S = 0
   released = not (SDset || m .«setSD_C»);
   «SDset_S» = SDset || m .«setSD_C»;
@@ -222,7 +222,7 @@ t12 m at = record {
   «SDset_S» = true;
   -- MCount = MCount + 1, if MCount = 8 then MCount = 1
   MCount = countAfter (m .MCount);
-  sample = sampleFrom m (countAfter (m .MCount)) at;
+  start = startFrom m (countAfter (m .MCount)) at;
   -- to 6, and by T9 (restart MTimer) to 7
   MTimer = at;
   runs = true;
@@ -248,7 +248,7 @@ t13 m at = record {
   «SDset_S» = true;
   -- MCount = MCount + 1, if MCount = 8 then MCount = 1
   MCount = countAfter (m .MCount);
-  sample = sampleFrom m (countAfter (m .MCount)) at;
+  start = startFrom m (countAfter (m .MCount)) at;
   -- to 6, and by T9 (restart MTimer) to 7
   MTimer = at;
   runs = true;
@@ -273,7 +273,7 @@ t14 m at = record {
   «SDset_S» = true;
   -- MCount = 0
   MCount = 0;
-  sample = sampleFrom m 0 at;
+  start = startFrom m 0 at;
   -- to 6, and by T9 (restart MTimer) to 7
   MTimer = at;
   runs = true;
@@ -314,11 +314,11 @@ signalled m «setSD_C» «ChFAck_C» = record {
   awaited = m .awaited;
   MTimer = m .MTimer;
   runs = m .runs;
-  sample = m .sample;
+  start = m .start;
   released = m .released;
 }
 
--- the number that stands for a row outside: 000's, and 0 for none
+-- the number of a row outside: 000's, and 0 for none
 abbrev pub rowNumberOf : Row → ℕ
 rowNumberOf Stay = 0
 rowNumberOf T4 = 4

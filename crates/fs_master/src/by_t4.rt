@@ -1,13 +1,13 @@
 // The call that nearly every response makes: in time, by T4, with nothing wrong. It is written apart, beside `step`, for the compiler alone: the
-// loop of a session tells it first and stores what T4 moves, with no other row in between. proofs/Regulars.antt: it is what `step` does.
+// loop of a session tells it first and stores what T4 changes, with no other row in between. proofs/Regulars.antt: it is what `step` does.
 ghost use mathlib.Core.Path.{_≡_};
 ghost use Rattle.fs_master.specs.Table38 as table38;
 ghost use Rattle.fs_master.specs.Regular as regulars;
 use crate::Master;
+use crate::table38::admitted;
 use crate::table38::is_expected;
 use crate::table38::is_old;
 use crate::table38::t4;
-use crate::table38::taken;
 use scl::Response;
 
 // Whether it is one, at a master whose watchdog time is w.
@@ -23,7 +23,7 @@ pub fn is_regular(m: Master, w: u16, at: u32, f: Response) -> bool
 
 // What it makes of the master.
 pub fn regular(m: Master, at: u32, f: Response) -> Master
-    ensures { λ r. ⌜ r ≡ table38.t4 (table38.taken m f) at (f .SDset) ⌝ }
+    ensures { λ r. ⌜ r ≡ table38.t4 (table38.admitted m f) at (f .SDset) ⌝ }
 {
-    t4(taken(m, f), at, f.SDset)
+    t4(admitted(m, f), at, f.SDset)
 }

@@ -7,21 +7,21 @@ use crate::Master;
 use crate::Outcome;
 use crate::Row;
 use crate::table38::acted;
+use crate::table38::admitted;
 use crate::table38::arrival_row;
 use crate::table38::checked;
 use crate::table38::has_faults;
+use crate::table38::is_admitted;
 use crate::table38::is_old;
-use crate::table38::is_taken;
 use crate::table38::signalled;
 use crate::table38::t8;
 use crate::table38::t14;
-use crate::table38::taken;
 use scl::Check;
 use scl::Happening;
 use scl::Response;
 
-// The master once its watchdog has been judged, with the row that did it.
-struct Judged {
+// The master once its watchdog has been looked at, with the row that did it.
+struct AfterWatchdog {
     row: Row,
     master: Master,
 }
@@ -36,7 +36,7 @@ fn quiet(m: Master, watchdog: Row, old: bool) -> Outcome
         check: Check::None,
         old,
         passed: false,
-        sent: m.sample,
+        sent: m.start,
         mark: scl::mark_of(false, m.released),
     }
 }
@@ -47,7 +47,7 @@ fn arrived(m: Master, watchdog: Row, at: u32, f: Response, old: bool, failed: Ch
 {
     let MCommErr = scl::is_failure(failed);
     let row = arrival_row(m, has_faults(MCommErr, f));
-    let after = acted(taken(m, f), row, at, f.SDset);
+    let after = acted(admitted(m, f), row, at, f.SDset);
     Outcome {
         master: after,
         watchdog,
@@ -55,7 +55,7 @@ fn arrived(m: Master, watchdog: Row, at: u32, f: Response, old: bool, failed: Ch
         check: failed,
         old,
         passed: !MCommErr,
-        sent: m.sample,
+        sent: m.start,
         mark: scl::mark_of(true, after.released),
     }
 }
@@ -64,7 +64,7 @@ fn received(m: Master, watchdog: Row, at: u32, f: Response) -> Outcome
     ensures { λ r. ⌜ r ≡ calls.received m watchdog at f ⌝ }
 {
     let old = is_old(m, f);
-    if is_taken(m, f, old) {
+    if is_admitted(m, f, old) {
         arrived(m, watchdog, at, f, old, checked(m, f))
     } else {
         quiet(m, watchdog, old)
@@ -72,35 +72,35 @@ fn received(m: Master, watchdog: Row, at: u32, f: Response) -> Outcome
 }
 
 // MTimeout: T8 from 5, T14 from 7.
-fn timed_out(m: Master, at: u32) -> Judged
+fn timed_out(m: Master, at: u32) -> AfterWatchdog
     ensures { λ r. ⌜ (r .row ≡ table38.timeoutRow (m .state)) × (r .master ≡ table38.acted m (table38.timeoutRow (m .state)) at false) ⌝ }
 {
     if m.state == 5 {
-        return Judged {
+        return AfterWatchdog {
             row: Row::T8,
             master: t8(m, at),
         };
     }
     if m.state == 7 {
-        Judged {
+        AfterWatchdog {
             row: Row::T14,
             master: t14(m, at),
         }
     } else {
-        Judged {
+        AfterWatchdog {
             row: Row::Stay,
             master: m,
         }
     }
 }
 
-fn watched(m: Master, w: u16, at: u32) -> Judged
-    ensures { λ r. ⌜ (r .row ≡ table38.watchdogRow m w at) × (r .master ≡ calls.judged m w at) ⌝ }
+fn watched(m: Master, w: u16, at: u32) -> AfterWatchdog
+    ensures { λ r. ⌜ (r .row ≡ table38.watchdogRow m w at) × (r .master ≡ calls.watched m w at) ⌝ }
 {
     if m.runs & scl::expired(at, m.MTimer, w) {
         timed_out(m, at)
     } else {
-        Judged {
+        AfterWatchdog {
             row: Row::Stay,
             master: m,
         }
@@ -114,13 +114,13 @@ pub fn step(m: Master, w: u16, happening: Happening) -> Outcome
     let at = scl::reading(happening);
     let after = watched(m, w, at);
     let row = after.row;
-    let judged = after.master;
+    let master = after.master;
     match happening {
-        Happening::Response(_, f) => received(judged, row, at, f),
-        Happening::Request(_, _) => quiet(judged, row, false),
-        Happening::Clock(_) => quiet(judged, row, false),
+        Happening::Response(_, f) => received(master, row, at, f),
+        Happening::Request(_, _) => quiet(master, row, false),
+        Happening::Clock(_) => quiet(master, row, false),
         Happening::Operator(_, setSD_C, ChFAck_C) => quiet(
-            signalled(judged, setSD_C, ChFAck_C),
+            signalled(master, setSD_C, ChFAck_C),
             row,
             false,
         ),

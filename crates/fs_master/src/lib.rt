@@ -16,7 +16,7 @@ pub use table38::row_number;
 #[repr(C)]
 pub struct Master {
     pub MTimer: u32,
-    pub sample: u32,
+    pub start: u32,
     pub carried: u16,
     pub awaited: u16,
     pub state: u8,
@@ -46,7 +46,7 @@ pub enum Row {
 }
 
 // What a call did at the FS-Master: the watchdog's row, then the row of the SPDU that came, the check that failed first, whether the SPDU was
-// old and whether it passed, from which reading a sample's time runs once the watchdog has been judged, and what is handed on.
+// old and whether it passed, from which reading a sample's time runs once the watchdog has been looked at, and what is handed on.
 pub struct Outcome {
     pub master: Master,
     pub watchdog: Row,

@@ -25,7 +25,7 @@ pub fn first(at: u32) -> Master
         awaited: 0,
         MTimer: at,
         runs: false,
-        sample: at,
+        start: at,
         released: false,
     }
 }
@@ -42,9 +42,9 @@ pub(crate) fn is_old(m: Master, f: Response) -> bool
     !f.all_zero & m.previous & ((f.DCount_i as u16 == m.carried) | (f.DCount_i as u16 == m.awaited))
 }
 
-pub(crate) fn is_taken(m: Master, f: Response, old: bool) -> bool
+pub(crate) fn is_admitted(m: Master, f: Response, old: bool) -> bool
     requires { ⌜ old ≡ table38.isOld m f ⌝ }
-    ensures { λ r. ⌜ r ≡ table38.isTaken m f ⌝ }
+    ensures { λ r. ⌜ r ≡ table38.isAdmitted m f ⌝ }
 {
     let in2 = m.state == 2;
     let in5 = m.state == 5;
@@ -89,8 +89,8 @@ pub(crate) fn arrival_row(m: Master, faults: bool) -> Row
     if faults { Row::T7 } else { Row::T4 }
 }
 
-pub(crate) fn taken(m: Master, f: Response) -> Master
-    ensures { λ r. ⌜ r ≡ table38.taken m f ⌝ }
+pub(crate) fn admitted(m: Master, f: Response) -> Master
+    ensures { λ r. ⌜ r ≡ table38.admitted m f ⌝ }
 {
     let mut n = m;
     n.previous = true;
@@ -99,10 +99,10 @@ pub(crate) fn taken(m: Master, f: Response) -> Master
     n
 }
 
-fn sample_from(m: Master, count: u8, at: u32) -> u32
-    ensures { λ r. ⌜ r ≡ table38.sampleFrom m count at ⌝ }
+fn start_from(m: Master, count: u8, at: u32) -> u32
+    ensures { λ r. ⌜ r ≡ table38.startFrom m count at ⌝ }
 {
-    if count == m.MCount { m.sample } else { at }
+    if count == m.MCount { m.start } else { at }
 }
 
 pub(crate) fn t4(m: Master, at: u32, SDset: bool) -> Master
@@ -110,7 +110,7 @@ pub(crate) fn t4(m: Master, at: u32, SDset: bool) -> Master
 {
     let mut n = m;
     n.MCount = scl::count_after(m.MCount);
-    n.sample = sample_from(m, scl::count_after(m.MCount), at);
+    n.start = start_from(m, scl::count_after(m.MCount), at);
     n.released = !(SDset | m.setSD_C);
     n.SDset_S = SDset | m.setSD_C;
     n.setSD = m.setSD_C;
@@ -128,7 +128,7 @@ fn t7(m: Master, at: u32) -> Master
     n.setSD = true;
     n.SDset_S = true;
     n.MCount = scl::count_after(m.MCount);
-    n.sample = sample_from(m, scl::count_after(m.MCount), at);
+    n.start = start_from(m, scl::count_after(m.MCount), at);
     n.MTimer = at;
     n.runs = true;
     n.state = 7;
@@ -143,7 +143,7 @@ pub(crate) fn t8(m: Master, at: u32) -> Master
     n.setSD = true;
     n.SDset_S = true;
     n.MCount = 0;
-    n.sample = sample_from(m, 0, at);
+    n.start = start_from(m, 0, at);
     n.MTimer = at;
     n.runs = true;
     n.state = 7;
@@ -158,7 +158,7 @@ fn t11(m: Master, at: u32, SDset: bool) -> Master
     n.ChFAckReq_S = false;
     n.ChFAck_C_e = false;
     n.MCount = scl::count_after(m.MCount);
-    n.sample = sample_from(m, scl::count_after(m.MCount), at);
+    n.start = start_from(m, scl::count_after(m.MCount), at);
     n.released = !(SDset | m.setSD_C);
     n.SDset_S = SDset | m.setSD_C;
     n.setSD = m.setSD_C;
@@ -179,7 +179,7 @@ fn t12(m: Master, at: u32) -> Master
     n.setSD = true;
     n.SDset_S = true;
     n.MCount = scl::count_after(m.MCount);
-    n.sample = sample_from(m, scl::count_after(m.MCount), at);
+    n.start = start_from(m, scl::count_after(m.MCount), at);
     n.MTimer = at;
     n.runs = true;
     n.state = 7;
@@ -197,7 +197,7 @@ fn t13(m: Master, at: u32) -> Master
     n.setSD = true;
     n.SDset_S = true;
     n.MCount = scl::count_after(m.MCount);
-    n.sample = sample_from(m, scl::count_after(m.MCount), at);
+    n.start = start_from(m, scl::count_after(m.MCount), at);
     n.MTimer = at;
     n.runs = true;
     n.state = 7;
@@ -215,7 +215,7 @@ pub(crate) fn t14(m: Master, at: u32) -> Master
     n.setSD = true;
     n.SDset_S = true;
     n.MCount = 0;
-    n.sample = sample_from(m, 0, at);
+    n.start = start_from(m, 0, at);
     n.MTimer = at;
     n.runs = true;
     n.state = 7;
@@ -246,7 +246,7 @@ pub(crate) fn signalled(m: Master, setSD_C: bool, ChFAck_C: bool) -> Master
     n
 }
 
-// The number that stands for a row outside.
+// The number of a row outside.
 pub fn row_number(row: Row) -> u8
     ensures { λ r. ⌜ r ≡ table38.rowNumberOf row ⌝ }
 {

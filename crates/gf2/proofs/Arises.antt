@@ -4,7 +4,7 @@ use mathlib.Core.Bool.{Bool, true, false}
 use mathlib.Core.List.{List, [], _∷_, _++_}
 use Prim.Native.Nat.{ℕ, _%_}
 use Rattle.gf2.specs.Polynomial.{Multiple, ones}
-use Rattle.gf2.specs.Register.{SameLengths, Passes}
+use Rattle.gf2.specs.Register.{SameLengths, Undetected}
 use Rattle.gf2.specs.Bits.{bits, octetBits}
 use Rattle.gf2.specs.Generators.{generator16, generator32}
 use Rattle.gf2.proofs.Bits.{bits-length}
@@ -17,7 +17,7 @@ abbrev flips : ℕ → ℕ → List Bool
 flips w c = bits 8 0x01 ++ bits w c
 
 abbrev Arrives : ℕ → ℕ → ℕ → Type 0
-Arrives w g c = Passes (bits w g) (bits w 1) (bits 8 0x53) (bits 8 0x01) (bits w c)
+Arrives w g c = Undetected (bits w g) (bits w 1) (bits 8 0x53) (bits 8 0x01) (bits w c)
 
 lengths : (w g c : ℕ) → SameLengths (bits w g) (bits w 1) (bits 8 0x53) (bits 8 0x01) (bits w c)
 lengths w g c = record {

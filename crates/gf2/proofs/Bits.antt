@@ -64,14 +64,14 @@ bits-parts zero k x = ap (λ (n : ℕ). bits n x) (zero-add k)
 bits-parts (suc n) k x =
     rw suc-add (ap₂ _∷_ (ap (λ (y : ℕ). eqb (y % 2) 1) (ap (λ (m : ℕ). x / 2 ^ m) (add-comm n k) ∙ sym (shr-shr x k n))) (bits-parts n k x))
 
--- a number moved left by n places: its low bits, and n zeros
-pub bits-moved : (k n x : ℕ) → bits (k + n) (x * 2 ^ n) ≡ bits k x ++ zeros n
-bits-moved k n x =
+-- a number shifted left by n places: its low bits, and n zeros
+pub bits-shifted : (k n x : ℕ) → bits (k + n) (x * 2 ^ n) ≡ bits k x ++ zeros n
+bits-shifted k n x =
     bits-parts k n (x * 2 ^ n)
     ∙ ap₂ _++_ (ap (bits k) (shl-shr x n))
     (sym (rw zero-add at (bits-mod 0 n (x * 2 ^ n))) ∙ ap (bits n) (mul-mod-left x (2 ^ n)) ∙ bits-zero n)
 
--- the number that a list of bits stands for
+-- the number of a list of bits
 abbrev number : List Bool → ℕ
 number [] = 0
 number (b ∷ a) = cond b 1 0 * 2 ^ length a + number a

@@ -8,7 +8,7 @@ use Prim.Native.Nat.{ℕ, _%_, _≤_}
 use native.Mathlib.Omega.{arith}
 use lib.ListN.{length, length-append}
 use Rattle.gf2.specs.Polynomial.{_⊻_, _⊕_, scale, zeros, product, Multiple, ones, Burst}
-use Rattle.gf2.specs.Register.{top, shift, step, register, SameLengths, Passes}
+use Rattle.gf2.specs.Register.{top, shift, step, register, SameLengths, Undetected}
 use Rattle.gf2.specs.Generators.{EndsInOne, EvenOnes}
 use Rattle.gf2.proofs.Product.{product-cons, product-length, multiple-sum, multiple-even, multiple-burst, multiple-generator}
 use Rattle.gf2.proofs.Sum.{
@@ -87,7 +87,7 @@ module _ (g : List Bool) where
 
 module _ {g seed ds es ec : List Bool} (f : SameLengths g seed ds es ec) where
   -- What arrives passes exactly where the flips, the register's lowest, are a multiple of the generator.
-  pub detects : Passes g seed ds es ec ↔ Multiple g (es ++ ec)
+  pub detects : Undetected g seed ds es ec ↔ Multiple g (es ++ ec)
   detects =
       let c = register g seed ds in
       let lc : length c ≡ length g = register-length g ds seed (f .in-seed) in
@@ -103,13 +103,13 @@ module _ {g seed ds es ec : List Bool} (f : SameLengths g seed ds es ec) where
       (λ m. rw x at (multiple-sum g k m (omega arith)), λ m. multiple-sum g k m (omega arith))
 
   -- Flips within w neighbouring bits pass only if there are none, if the generator's constant term is 1.
-  pub burst-detected : EndsInOne g → (i : ℕ) → Burst i (length g) (es ++ ec) → Passes g seed ds es ec → ones (es ++ ec) ≡ 0
+  pub burst-detected : EndsInOne g → (i : ℕ) → Burst i (length g) (es ++ ec) → Undetected g seed ds es ec → ones (es ++ ec) ≡ 0
   burst-detected h i w p = multiple-burst g h i w (detects .0 p)
 
   -- An odd number of flips never passes, if the generator has an even number of ones.
-  pub odd-detected : EvenOnes g → ones (es ++ ec) % 2 ≡ 1 → Passes g seed ds es ec → ⊥
+  pub odd-detected : EvenOnes g → ones (es ++ ec) % 2 ≡ 1 → Undetected g seed ds es ec → ⊥
   odd-detected h o p = omega (arith, multiple-even g h (detects .0 p))
 
   -- The bound on bursts is sharp: the generator itself, w + 1 bits, passes wherever it stands.
-  pub generator-passes : (i j : ℕ) → es ++ ec ≡ zeros i ++ ((true ∷ g) ++ zeros j) → Passes g seed ds es ec
+  pub generator-passes : (i j : ℕ) → es ++ ec ≡ zeros i ++ ((true ∷ g) ++ zeros j) → Undetected g seed ds es ec
   generator-passes i j e = detects .1 (rw e (multiple-generator g i j))

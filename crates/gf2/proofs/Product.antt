@@ -127,11 +127,11 @@ module _ (g : List Bool) where
   product-one j = ap (λ (a : List Bool). (true ∷ g) ⊕ (false ∷ a)) (product-zeros j ∙ ap zeros (add-comm j (length g))) ∙ ap (_∷_ true) (sum-longer g j)
 
   pub multiple-generator : (i j : ℕ) → Multiple g (zeros i ++ ((true ∷ g) ++ zeros j))
-  multiple-generator i j = record { quotient = zeros i ++ (true ∷ zeros j); exact = sym (moved i) }
+  multiple-generator i j = record { quotient = zeros i ++ (true ∷ zeros j); exact = sym (shifted i) }
     where
-      moved : (n : ℕ) → product g (zeros n ++ (true ∷ zeros j)) ≡ zeros n ++ ((true ∷ g) ++ zeros j)
-      moved zero = product-one j
-      moved (suc n) = product-zero (zeros n ++ (true ∷ zeros j)) ∙ ap (_∷_ false) (moved n)
+      shifted : (n : ℕ) → product g (zeros n ++ (true ∷ zeros j)) ≡ zeros n ++ ((true ∷ g) ++ zeros j)
+      shifted zero = product-one j
+      shifted (suc n) = product-zero (zeros n ++ (true ∷ zeros j)) ∙ ap (_∷_ false) (shifted n)
 
 -- ---- a burst, by counts of ones that antt computes
 some-one : (e : List Bool) (k : ℕ) → getD e k false ≡ true → 0 < ones e

@@ -10,12 +10,12 @@ abbrev pub top : List Bool → Bool
 top [] = false
 top (t ∷ r) = t
 
--- the register moved by one place: its top bit falls out, and a zero comes in
+-- the register shifted by one place: its top bit falls out, and a zero comes in
 abbrev pub shift : List Bool → List Bool
 shift [] = []
 shift (t ∷ r) = r ++ (false ∷ [])
 
--- one bit of a message goes in: the register moves, and the generator is added where the bit that falls out differs from the message's
+-- one bit of a message goes in: the register shifts, and the generator is added where the bit that falls out differs from the message's
 abbrev pub step : List Bool → List Bool → Bool → List Bool
 step g r d = shift r ⊕ scale (top r ⊻ d) g
 
@@ -31,5 +31,5 @@ pub record SameLengths (g seed ds es ec : List Bool) : Type 0 where
   pub in-register : length ec ≡ length g
 
 -- what arrives passes: the register after the flipped message is the flipped register
-abbrev pub Passes : List Bool → List Bool → List Bool → List Bool → List Bool → Type 0
-Passes g seed ds es ec = register g seed (ds ⊕ es) ≡ register g seed ds ⊕ ec
+abbrev pub Undetected : List Bool → List Bool → List Bool → List Bool → List Bool → Type 0
+Undetected g seed ds es ec = register g seed (ds ⊕ es) ≡ register g seed ds ⊕ ec

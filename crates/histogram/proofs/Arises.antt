@@ -11,7 +11,7 @@ use lib.ListN.{length, getD, replicate, length-replicate, getD-replicate}
 use lib.Seq.{take-all}
 use Rattle.answer.specs.declared.Answer.the-variants.{Taken, NoSamples}
 use Rattle.histogram.specs.declared.Histogram.{Histogram}
-use Rattle.histogram.specs.Samples.{binCount, binOf, Within, none, more, inBin, lowestOf, limit, Counts, Holds, Fits}
+use Rattle.histogram.specs.Samples.{binCount, binOf, Within, none, more, inBin, lowestOf, limit, Counts, CountsToLimit, Fits}
 use Rattle.histogram.specs.Counted.{frozenOf, clearedOf, withSample, countedOf, countedAll}
 use Rattle.histogram.specs.Trends.{pointOf, trendOf, Converted, Shows}
 use Rattle.histogram.proofs.Samples.{bin-below}
@@ -31,10 +31,10 @@ within-met = more {t = 3} (omega arith) (more {t = 4} (omega arith) (more {t = 9
 pub bin-met : binOf 99 99 < binCount
 bin-met = bin-below 99 99 (omega arith)
 
-pub all-counted-met : Holds 99 three ofThree
+pub all-counted-met : CountsToLimit 99 three ofThree
 all-counted-met = all-counted 99 (omega arith) three within-met
 
-pub counted-holds-met : Holds 99 (three ++ 50 ∷ []) (countedOf ofThree 99 50)
+pub counted-holds-met : CountsToLimit 99 (three ++ 50 ∷ []) (countedOf ofThree 99 50)
 counted-holds-met = counted-holds (omega arith) within-met all-counted-met 50 (omega arith)
 
 fits-met : Fits ofThree
@@ -103,7 +103,7 @@ full = replicate limit 0
 full-length : length full ≡ limit
 full-length = length-replicate limit 0
 
-full-holds : Holds 99 full (ofZeros limit)
+full-holds : CountsToLimit 99 full (ofZeros limit)
 full-holds = rw (take-all limit full (omega (arith, full-length))) (counts-zeros limit)
 
 pub full-met : frozenOf (ofZeros limit) ≡ true

@@ -10,7 +10,7 @@ use lib.Dec.{eqb, leb}
 use lib.ListN.{length, getD, set, length-append, length-take, length-set, getD-replicate}
 use lib.Seq.{append-snoc, take-all, take-append-le, take-nil, getD-set-same, getD-set-other}
 use Rattle.histogram.specs.declared.Histogram.{Histogram}
-use Rattle.histogram.specs.Samples.{binCount, binOf, Within, none, more, inBin, Counts, limit, Holds, Fits}
+use Rattle.histogram.specs.Samples.{binCount, binOf, Within, none, more, inBin, Counts, limit, CountsToLimit, Fits}
 use Rattle.histogram.specs.Counted.{frozenOf, clearedOf, withSample, countedOf, countedAll}
 use Rattle.histogram.proofs.Samples.{in-bin-more, sum-more, lowest-more, highest-more, within-more, in-bin-below, sum-below, lowest-within, highest-within, within-take}
 
@@ -50,41 +50,41 @@ module _ {w : ℕ} {samples : List ℕ} {h : Histogram} (small : w ≤ 65535) (r
       }
 
 -- ---- one sample more, at the limit or below
-module _ {w : ℕ} {samples : List ℕ} {h : Histogram} (small : w ≤ 65535) (within : Within w samples) (holds : Holds w samples h) (t : ℕ) (l : t ≤ w) where
-  at-limit : limit ≤ length samples → Holds w (samples ++ t ∷ []) h
+module _ {w : ℕ} {samples : List ℕ} {h : Histogram} (small : w ≤ 65535) (within : Within w samples) (holds : CountsToLimit w samples h) (t : ℕ) (l : t ≤ w) where
+  at-limit : limit ≤ length samples → CountsToLimit w (samples ++ t ∷ []) h
   at-limit full = rw (take-append-le limit samples (t ∷ [])) holds
 
-  below-limit : length samples < limit → Holds w (samples ++ t ∷ []) (withSample h w t)
+  below-limit : length samples < limit → CountsToLimit w (samples ++ t ∷ []) (withSample h w t)
   below-limit room =
       let all : length (samples ++ t ∷ []) ≤ limit = simp length-append (omega arith) in
       rw (take-all limit (samples ++ t ∷ [])) (with-sample small room within (rw (take-all limit samples (omega arith)) at holds) t l)
 
-  pub counted-holds : Holds w (samples ++ t ∷ []) (countedOf h w t)
+  pub counted-holds : CountsToLimit w (samples ++ t ∷ []) (countedOf h w t)
   unfolding countedOf frozenOf
   counted-holds = go (eqb (h .total) limit) refl
     where
-      go : (b : Bool) → eqb (h .total) limit ≡ b → Holds w (samples ++ t ∷ []) (cond b h (withSample h w t))
+      go : (b : Bool) → eqb (h .total) limit ≡ b → CountsToLimit w (samples ++ t ∷ []) (cond b h (withSample h w t))
       go true e = at-limit (omega (arith, eqb-true (h .total) limit e, holds .total, length-take limit samples))
       go false e = below-limit (omega (arith, eqb-false (h .total) limit e, holds .total, length-take limit samples))
 
 -- ---- any number of samples
-pub cleared-holds : (w : ℕ) → Holds w [] clearedOf
+pub cleared-holds : (w : ℕ) → CountsToLimit w [] clearedOf
 unfolding inBin
 cleared-holds w = rw (take-nil limit) (record { size = refl; bins = λ i l. getD-replicate binCount i 0 0 l; total = refl; sum = refl; lowest = refl; highest = refl })
 
 module _ (w : ℕ) (small : w ≤ 65535) where
-  then-all : (done : List ℕ) (h : Histogram) (rest : List ℕ) → Within w done → Within w rest → Holds w done h → Holds w (done ++ rest) (foldl (λ h t. countedOf h w t) h rest)
+  then-all : (done : List ℕ) (h : Histogram) (rest : List ℕ) → Within w done → Within w rest → CountsToLimit w done h → CountsToLimit w (done ++ rest) (foldl (λ h t. countedOf h w t) h rest)
   then-all done h [] a none holds = rw append-nil holds
   then-all done h (t ∷ rest) a (more l b) holds =
       rw append-snoc at (then-all (done ++ t ∷ []) (countedOf h w t) rest (within-more t a l) b (counted-holds small a holds t l))
 
-  pub all-counted : (samples : List ℕ) → Within w samples → Holds w samples (countedAll w samples)
+  pub all-counted : (samples : List ℕ) → Within w samples → CountsToLimit w samples (countedAll w samples)
   all-counted samples within = then-all [] clearedOf samples none within (cleared-holds w)
 
-pub nothing-wraps : {w : ℕ} {samples : List ℕ} {h : Histogram} → w ≤ 65535 → Within w samples → Holds w samples h → Fits h
+pub nothing-wraps : {w : ℕ} {samples : List ℕ} {h : Histogram} → w ≤ 65535 → Within w samples → CountsToLimit w samples h → Fits h
 nothing-wraps {w} {samples} {h} small within holds = fits small (within-take limit within) (omega (arith, length-take limit samples)) holds
 
-module _ {w : ℕ} (samples : List ℕ) {h : Histogram} (holds : Holds w samples h) where
+module _ {w : ℕ} (samples : List ℕ) {h : Histogram} (holds : CountsToLimit w samples h) where
   -- the frozen mark is set exactly where there are as many samples as the limit, or more
   pub frozen-mark : frozenOf h ≡ leb limit (length samples)
   unfolding frozenOf

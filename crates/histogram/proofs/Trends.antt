@@ -12,7 +12,7 @@ use Rattle.answer.specs.declared.Answer.the-variants.{Taken, NoSamples}
 use Rattle.nearest.proofs.Whole.{exact, rounded-once}
 use Rattle.nearest.proofs.Closest.{quotient-nearest}
 use Rattle.histogram.specs.declared.Histogram.{Histogram}
-use Rattle.histogram.specs.Samples.{Within, limit, Holds, Fits, sumOf, lowestOf, highestOf}
+use Rattle.histogram.specs.Samples.{Within, limit, CountsToLimit, Fits, sumOf, lowestOf, highestOf}
 use Rattle.histogram.specs.Trends.{pointOf, trendOf, Converted, Shows}
 use Rattle.histogram.proofs.Counting.{nothing-wraps}
 
@@ -43,7 +43,7 @@ limit-above : 0 < limit
 unfolding limit
 limit-above = omega arith
 
-module _ {w : ℕ} (samples : List ℕ) {h : Histogram} (holds : Holds w samples h) where
+module _ {w : ℕ} (samples : List ℕ) {h : Histogram} (holds : CountsToLimit w samples h) where
   total-is : h .total ≡ min limit (length samples)
   total-is = holds .total ∙ length-take limit samples
 

@@ -52,8 +52,8 @@ unfoldable pub limit : ℕ
 limit = 4294967295
 
 -- the histogram of a port since its last accepted block: it counts the samples up to the limit, and no later one
-abbrev pub Holds : ℕ → List ℕ → Histogram → Type 0
-Holds w samples h = Counts w (take limit samples) h
+abbrev pub CountsToLimit : ℕ → List ℕ → Histogram → Type 0
+CountsToLimit w samples h = Counts w (take limit samples) h
 
 -- "The sum stays below 2^48"; nothing in a histogram wraps
 pub record Fits (h : Histogram) : Type 0 where

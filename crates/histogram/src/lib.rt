@@ -111,7 +111,7 @@ fn higher(a: u16, b: u16) -> u16
     if a < b { b } else { a }
 }
 
-// The first sample t stands for the lowest and the highest so far.
+// The first sample t is the lowest and the highest so far.
 fn so_far(first: bool, t: u16, end: u16) -> u16
     ensures { λ r. ⌜ r ≡ cond first t end ⌝ }
 {

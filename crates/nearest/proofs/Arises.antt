@@ -8,7 +8,7 @@ use native.Mathlib.Omega.{arith}
 use lib.IntN.{pos}
 use lib.Ieee.{Float, Format, fin, binary32, binary64, fits, round, ofInt, div}
 use lib.Ieee.Positive.{num, den}
-use Rattle.nearest.specs.Nearest.{Exact, place, Nearest}
+use Rattle.nearest.specs.Nearest.{Exact, lastDigit, Nearest}
 use Rattle.nearest.proofs.Whole.{exact, rounded-once}
 use Rattle.nearest.proofs.Closest.{quotient-nearest}
 
@@ -35,6 +35,6 @@ pub odd-refused : Nearest binary32 odd 16777217 1 → ⊥
 unfolding fits
 odd-refused n = go (n .even even tt (refl, refl) refl)
   where
-    go : (num odd * den even ≡ num even * den odd) ⊎ ((q : ℕ) × (num odd * den even ≡ 2 * q * place even * den odd)) → ⊥
+    go : (num odd * den even ≡ num even * den odd) ⊎ ((q : ℕ) × (num odd * den even ≡ 2 * q * lastDigit even * den odd)) → ⊥
     go (inl e) = omega (arith, e)
     go (inr (q, e)) = omega (arith, e)

@@ -20,7 +20,7 @@ use lib.Ieee.Order.{drop, kept, round-mono}
 use lib.Ieee.Scale.{grid, overflow, round-val}
 use lib.Ieee.Back.{round-whole}
 use lib.Ieee.Positive.{num, den, den-pos, value→cross}
-use Rattle.nearest.specs.Nearest.{apart, place, Nearest}
+use Rattle.nearest.specs.Nearest.{apart, lastDigit, Nearest}
 
 -- ---- small things
 le-or-lt : (a b : ℕ) → (a ≤ b) ⊎ (b < a)
@@ -242,7 +242,7 @@ grid-tie p n b m t P B h d =
 
 -- ---- a value of the format, in units of its smallest: m of the weight of its last digit
 abbrev InUnits : Format → Float → Type 0
-InUnits f y = (m : ℕ) × (t : ℕ) × (m < 2 ^ prec f) × (num y * 2 ^ low f ≡ m * 2 ^ t * den y) × (0 < m → place y * 2 ^ low f ≡ 2 ^ t * den y)
+InUnits f y = (m : ℕ) × (t : ℕ) × (m < 2 ^ prec f) × (num y * 2 ^ low f ≡ m * 2 ^ t * den y) × (0 < m → lastDigit y * 2 ^ low f ≡ 2 ^ t * den y)
 
 no-deeper : (j l : ℕ) → 2 ^ j ≤ 2 ^ l → j ≤ l
 no-deeper j l h = go (le-or-lt j l)
@@ -255,9 +255,9 @@ no-deeper j l h = go (le-or-lt j l)
 times : (m v l t d : ℕ) → v * l ≡ t * d → m * v * l ≡ m * t * d
 times m v l t d h = mul-assoc m v l ∙ ap (λ (x : ℕ). m * x) h ∙ sym (mul-assoc m t d)
 
-place-is : (e : ℤ) (l : ℕ) → down e ≤ 2 ^ l → (t : ℕ) × (up e * 2 ^ l ≡ 2 ^ t * down e)
-place-is (pos j) l h = (j + l, sym (pow-add 2 j l) ∙ sym (mul-one (2 ^ (j + l))))
-place-is (negsuc j) l h = (l - suc j, one-mul (2 ^ l) ∙ ap (λ (x : ℕ). 2 ^ x) (sym (back l (suc j) (no-deeper (suc j) l h))) ∙ pow-add 2 (l - suc j) (suc j))
+last-digit-is : (e : ℤ) (l : ℕ) → down e ≤ 2 ^ l → (t : ℕ) × (up e * 2 ^ l ≡ 2 ^ t * down e)
+last-digit-is (pos j) l h = (j + l, sym (pow-add 2 j l) ∙ sym (mul-one (2 ^ (j + l))))
+last-digit-is (negsuc j) l h = (l - suc j, one-mul (2 ^ l) ∙ ap (λ (x : ℕ). 2 ^ x) (sym (back l (suc j) (no-deeper (suc j) l h))) ∙ pow-add 2 (l - suc j) (suc j))
 
 in-units : (f : Format) (y : Float) → T (fits f y) → InUnits f y
 unfolding fits
@@ -269,7 +269,7 @@ in-units f (fin s (suc m) e) t =
     let B : Bool = ltb (suc m) (2 ^ prec f) in
     let C : Bool = leb (down e) (2 ^ low f) in
     let D : Bool = ltb (suc m * up e) (2 ^ suc (emax f) * down e) in
-    let w = place-is e (low f) (leb→le (down e) (2 ^ low f) (and-r (A && B) C (and-l (A && B && C) D t))) in
+    let w = last-digit-is e (low f) (leb→le (down e) (2 ^ low f) (and-r (A && B) C (and-l (A && B && C) D t))) in
     (suc m, w .0, ltb→lt (suc m) (2 ^ prec f) (and-r A B (and-l (A && B) C (and-l (A && B && C) D t))), times (suc m) (up e) (2 ^ low f) (2 ^ w .0) (down e) (w .1), λ h. w .1)
 
 -- ---- from units to fractions: p / q is y / l
@@ -366,6 +366,6 @@ quotient-nearest f a b h B =
             | inl i ↦ inl (same-number (num x) (den x) (grid f a b) (num y) (den y) (u .0 * 2 ^ u .1) l L c (u .3) i)
             | inr i ↦
                 let k = kept (prec f) (a * l) b in
-                inr (k / 2, even-number (num x) (den x) k (2 ^ u .1) (place y) (den y) l L (subst (λ (z : ℕ). num x * l ≡ k * 2 ^ z * den x) (i .1) c) (u .4 (i .2)) (i .0))
+                inr (k / 2, even-number (num x) (den x) k (2 ^ u .1) (lastDigit y) (den y) l L (subst (λ (z : ℕ). num x * l ≡ k * 2 ^ z * den x) (i .1) c) (u .4 (i .2)) (i .0))
           ];
     }

@@ -21,10 +21,10 @@ abbrev pub apart : ℕ → ℕ → ℕ → ℕ → ℕ
 apart p q a b = p * b - a * q + (a * q - p * b)
 
 -- the weight of a finite value's last digit is `place` / `den`: m * 2 ^ e with an odd m has the last digit 2 ^ e
-abbrev pub place : Float → ℕ
-place nan = 1
-place (inf s) = 1
-place (fin s m e) = up e
+abbrev pub lastDigit : Float → ℕ
+lastDigit nan = 1
+lastDigit (inf s) = 1
+lastDigit (fin s m e) = up e
 
 -- Of the values of the format f that are not negative, x is the nearest to a / b, and of two that are as near it is the even one. (A value
 -- below zero is farther off than 0 is.) A finite value y is `num y` / `den y` in size, so `near` says |x - a / b| ≤ |y - a / b|, with the
@@ -34,4 +34,4 @@ pub record Nearest (f : Format) (x : Float) (a b : ℕ) : Type 0 where
   pub size : HasValue x false (num x) (den x)
   pub near : (y : Float) → T (fits f y) → HasValue y false (num y) (den y) → apart (num x) (den x) a b * den y ≤ apart (num y) (den y) a b * den x
   pub even : (y : Float) → T (fits f y) → HasValue y false (num y) (den y) → apart (num x) (den x) a b * den y ≡ apart (num y) (den y) a b * den x
-      → (num x * den y ≡ num y * den x) ⊎ ((q : ℕ) × (num x * den y ≡ 2 * q * place y * den x))
+      → (num x * den y ≡ num y * den x) ⊎ ((q : ℕ) × (num x * den y ≡ 2 * q * lastDigit y * den x))

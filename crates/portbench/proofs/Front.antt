@@ -1,4 +1,4 @@
--- Octets moved to the front of their buffer, one after the other. Assumes nothing.
+-- Octets copied to the front of their buffer, one after the other. Assumes nothing.
 use Prim.Native.Nat.{ℕ, suc, _+_, _<_}
 use native.Mathlib.Omega.{arith}
 use native.Mathlib.Numerals.{add-one}
@@ -33,5 +33,5 @@ one-more from j buf h =
 pub again : (buf₀ buf : List ℕ) (from j : ℕ) → buf ≡ toFront from j buf₀ → from + j < length buf₀ → set buf j (getD buf (from + j) 0) ≡ toFront from (j + 1) buf₀
 again buf₀ buf from j e h = ap (λ (l : List ℕ). set l j (getD l (from + j) 0)) e ∙ one-more from j buf₀ h
 
-pub moved : (buf₀ buf : List ℕ) (from j n : ℕ) → buf ≡ toFront from j buf₀ → j ≡ n → buf ≡ toFront from n buf₀
-moved buf₀ buf from j n e h = e ∙ ap (λ (k : ℕ). toFront from k buf₀) h
+pub copied : (buf₀ buf : List ℕ) (from j n : ℕ) → buf ≡ toFront from j buf₀ → j ≡ n → buf ≡ toFront from n buf₀
+copied buf₀ buf from j n e h = e ∙ ap (λ (k : ℕ). toFront from k buf₀) h

@@ -16,17 +16,17 @@ use Rattle.io.specs.Counts.{clamped}
 use Rattle.record.specs.Format.{form, mostOctets}
 use Rattle.session.specs.declared.State.{State}
 use Rattle.session.specs.Run.{Entry, isWhole, start, ran, printed, closing, closingRoom, finishText, fronted}
-use Rattle.session.proofs.Blocks.{Reads, reads-of, extended, joined, fewer, all-of, ran-append}
-use Rattle.portbench.specs.declared.Block.{Block}
+use Rattle.session.proofs.Chunks.{Reads, reads-of, extended, joined, fewer, all-of, ran-append}
+use Rattle.portbench.specs.declared.Chunk.{Chunk}
 use Rattle.portbench.specs.declared.Going.the-variants.{On, Over, Stopped}
 use Rattle.portbench.specs.Kept.{
   recordsIn,
   leftOf,
   stopped,
-  blockOf,
-  Taken,
+  chunkOf,
+  Used,
   unwritten,
-  taken,
+  used,
   Brought,
   unread,
   none,
@@ -44,7 +44,7 @@ use Rattle.portbench.specs.Kept.{
 
 -- ---- What `read` answered, which the machine reads back from its bits as got′
 
-module _ {last r : Block} {buf buf′ : List ℕ} where
+module _ {last r : Chunk} {buf buf′ : List ℕ} where
   below : (got : ℤ) → ltZ got (pos 0) ≡ true → r ≡ stopped (last .state) → Brought last got buf r buf′
   below (pos k) e h = absurd (omega (arith, ltb-true k 0 e))
   below (negsuc k) e h = unread k refl h
@@ -61,7 +61,7 @@ module _ {last r : Block} {buf buf′ : List ℕ} where
 
     above : (got : ℤ) → ltZ got (pos 0) ≡ false → Moved (length buf - last .left) got
         → n ≡ clamped got (length (midOf (last .left) (length buf - last .left) buf)) → 0 < n
-        → Taken (last .state) (take (last .left + n) buf) r buf′ → Brought last got buf r buf′
+        → Used (last .state) (take (last .left + n) buf) r buf′ → Brought last got buf r buf′
     above (pos zero) e m c z h = absurd (omega arith)
     above (pos (suc k)) e m c z h = let same : n ≡ suc k = omega (arith, mid-len (last .left) (length buf) buf (omega arith)) in some k refl (rw same at h)
     above (negsuc k) e m c z h = let y : _≡_ {A = ℕ} 0 1 = cc in absurd (omega arith)
@@ -71,19 +71,19 @@ module _ {last r : Block} {buf buf′ : List ℕ} where
       pub at-zero : n ≡ 0 → r ≡ record { state = last .state; left = last .left; going = Over } → Brought last got buf r buf′
       at-zero = at got (rw same at e) m (rw same at c)
 
-      pub above-zero : 0 < n → Taken (last .state) (take (last .left + n) buf) r buf′ → Brought last got buf r buf′
+      pub above-zero : 0 < n → Used (last .state) (take (last .left + n) buf) r buf′ → Brought last got buf r buf′
       above-zero = above got (rw same at e) m (rw same at c)
 
 -- ---- One read after the other
 
--- Up to this block, these octets have been read.
-record Session (last : Block) : Type 0 where
+-- Up to this chunk, these octets have been read.
+record Session (last : Chunk) : Type 0 where
   pub octets : List ℕ
   pub state : last .state ≡ ran start (recordsIn octets)
   pub left : last .left ≡ length (leftOf octets)
 
 -- and what is left of them is at the front of the buffer, with room behind it
-record Carried (last : Block) (buf : List ℕ) : Type 0 where
+record Carried (last : Chunk) (buf : List ℕ) : Type 0 where
   pub session : Session last
   pub kept : take (last .left) buf ≡ leftOf (session .octets)
   pub short : last .going ≡ On → last .left < mostOctets
@@ -99,32 +99,32 @@ grown s t e =
     joined (extended t (reads-of (length s) s)) (reads-of (length (leftOf s ++ t)) (leftOf s ++ t)) in
     all-of (length (s ++ t)) reads e (fewer reads)
 
-goes : {r b : Block} → r ≡ b → r .going ≡ b .going
-goes e = ap (λ (x : Block). x .going) e
+goes : {r b : Chunk} → r ≡ b → r .going ≡ b .going
+goes e = ap (λ (x : Chunk). x .going) e
 
-module _ {last r : Block} {buf buf′ : List ℕ} (k : Carried last buf) where
-  longer : (t : List ℕ) → r ≡ blockOf (last .state) (take (last .left) buf ++ t) → isWhole (form (leftOf (take (last .left) buf ++ t))) ≡ false
+module _ {last r : Chunk} {buf buf′ : List ℕ} (k : Carried last buf) where
+  longer : (t : List ℕ) → r ≡ chunkOf (last .state) (take (last .left) buf ++ t) → isWhole (form (leftOf (take (last .left) buf ++ t))) ≡ false
       → take (r .left) buf′ ≡ leftOf (take (last .left) buf ++ t) → (r .going ≡ On → r .left < mostOctets) → Carried r buf′
   longer t e w b l =
       let octets = k .session .octets in
       let rest = leftOf octets in
-      let e′ : r ≡ blockOf (last .state) (rest ++ t) = rw (k .kept) at e in
+      let e′ : r ≡ chunkOf (last .state) (rest ++ t) = rw (k .kept) at e in
       let g = grown octets t (rw (k .kept) at w) in
       record {
         session = record {
           octets = octets ++ t;
-          state = ap (λ (x : Block). x .state) e′
+          state = ap (λ (x : Chunk). x .state) e′
               ∙ ap (λ (x : State). ran x (recordsIn (rest ++ t))) (k .session .state)
               ∙ sym (ran-append start (recordsIn octets) (recordsIn (rest ++ t)))
               ∙ ap (λ (l : List Entry). ran start l) (sym (g .0));
-          left = ap (λ (x : Block). x .left) e′ ∙ ap length (sym (g .1));
+          left = ap (λ (x : Chunk). x .left) e′ ∙ ap length (sym (g .1));
         };
         kept = rw (k .kept) at b ∙ sym (g .1);
         short = l;
       }
 
   -- the octets of a read
-  brought : (n : ℕ) (now : List ℕ) → take (last .left) now ≡ take (last .left) buf → r ≡ blockOf (last .state) (take (last .left + n) now)
+  brought : (n : ℕ) (now : List ℕ) → take (last .left) now ≡ take (last .left) buf → r ≡ chunkOf (last .state) (take (last .left + n) now)
       → isWhole (form (leftOf (take (last .left + n) now))) ≡ false → take (r .left) buf′ ≡ leftOf (take (last .left + n) now)
       → (r .going ≡ On → r .left < mostOctets) → Carried r buf′
   brought n now e f w b l =
@@ -135,34 +135,34 @@ module _ {last r : Block} {buf buf′ : List ℕ} (k : Carried last buf) where
   next (read got now h e (unread m z f)) g = let z : _≡_ {A = ℕ} 0 1 = cc (goes f) in absurd (omega arith)
   next (read got now h e (none z f)) g = let z : _≡_ {A = ℕ} 0 1 = cc (goes f) in absurd (omega arith)
   next (read got now h e (some n z (unwritten f))) g = let z : _≡_ {A = ℕ} 0 1 = cc (goes f) in absurd (omega arith)
-  next (read got now h e (some n z (taken f w b l))) g = brought (suc n) now e f w b l
+  next (read got now h e (some n z (used f w b l))) g = brought (suc n) now e f w b l
 
   over : Read last (take (last .left) buf) r buf′ → r .going ≡ Over → Session r
   over (read got now h e (unread m z f)) g = let z : _≡_ {A = ℕ} 0 1 = cc (goes f) in absurd (omega arith)
   over (read got now h e (none z f)) g = rw f (record { octets = k .session .octets; state = k .session .state; left = k .session .left })
   over (read got now h e (some n z (unwritten f))) g = let z : _≡_ {A = ℕ} 0 1 = cc (goes f) in absurd (omega arith)
-  over (read got now h e (some n z (taken f w b l))) g = brought (suc n) now e f w b l .session
+  over (read got now h e (some n z (used f w b l))) g = brought (suc n) now e f w b l .session
 
 -- ---- All reads
 
-carried : {n : ℕ} {last : Block} {buf : List ℕ} → After n last buf → last .going ≡ On → Carried last buf
+carried : {n : ℕ} {last : Chunk} {buf : List ℕ} → After n last buf → last .going ≡ On → Carried last buf
 carried (none-yet {buf}) g = nothing-read buf
 carried (one-more a h r) g = next (carried a h) r g
 
-pub short : {n : ℕ} {last : Block} {buf : List ℕ} → After n last buf → last .going ≡ On → last .left < mostOctets
+pub short : {n : ℕ} {last : Chunk} {buf : List ℕ} → After n last buf → last .going ≡ On → last .left < mostOctets
 short a g = carried a g .short g
 
 -- so many turns are left of the most
-pub record Turned (turns : ℕ) (last : Block) (buf : List ℕ) : Type 0 where
+pub record Turned (turns : ℕ) (last : Chunk) (buf : List ℕ) : Type 0 where
   pub reads : ℕ
   pub after : After reads last buf
   pub going : last .going ≡ On
   pub count : reads + turns ≡ mostReads
 
-pub begin : (turns : ℕ) (last : Block) (buf : List ℕ) → last ≡ first → turns ≡ mostReads → Turned turns last buf
+pub begin : (turns : ℕ) (last : Chunk) (buf : List ℕ) → last ≡ first → turns ≡ mostReads → Turned turns last buf
 begin turns last buf e h = rw e (record { reads = 0; after = none-yet; going = refl; count = omega arith })
 
-module _ {turns : ℕ} {last r : Block} {buf buf′ : List ℕ} (t : Turned turns last buf) (b : Read last (take (last .left) buf) r buf′) where
+module _ {turns : ℕ} {last r : Chunk} {buf buf′ : List ℕ} (t : Turned turns last buf) (b : Read last (take (last .left) buf) r buf′) where
   pub again : (turns′ : ℕ) → turns′ + 1 ≡ turns → r .going ≡ On → Turned turns′ r buf′
   again turns′ h g = record { reads = suc (t .reads); after = one-more (t .after) (t .going) b; going = g; count = omega (arith, t .count) }
 
@@ -175,7 +175,7 @@ module _ {turns : ℕ} {last r : Block} {buf buf′ : List ℕ} (t : Turned turn
         closed = λ o. let z : _≡_ {A = ℕ} 0 1 = cc in absurd (omega arith);
       }
 
-pub unended : {turns : ℕ} {last : Block} {buf : List ℕ} → Turned turns last buf → turns ≡ 0 → (out : List ℕ) → Ran last buf out
+pub unended : {turns : ℕ} {last : Chunk} {buf : List ℕ} → Turned turns last buf → turns ≡ 0 → (out : List ℕ) → Ran last buf out
 unended t h out =
     record {
       reads = t .reads;
@@ -189,7 +189,7 @@ some-left zero = refl
 some-left (suc n) = rw (ne-eqb (suc n) 0 (λ e. omega arith), lt-ltb 0 (suc n) (omega arith))
 
 -- what `finish` writes is the end of what is printed
-closes : {last : Block} → Session last → (out out′ : List ℕ) → closingRoom ≤ length out
+closes : {last : Chunk} → Session last → (out out′ : List ℕ) → closingRoom ≤ length out
     → out′ ≡ fronted (finishText (last .state) (ltb 0 (last .left)) (length out)) out → Closed last out′
 unfolding finishText printed
 closes {last} s out out′ h e =
@@ -204,7 +204,7 @@ closes {last} s out out′ h e =
       front = rw front (take-append-seam text (drop (length text) out));
     }
 
-pub ended : {turns : ℕ} {last r : Block} {buf buf′ : List ℕ} → Turned turns last buf → Read last (take (last .left) buf) r buf′ → r .going ≡ Over
+pub ended : {turns : ℕ} {last r : Chunk} {buf buf′ : List ℕ} → Turned turns last buf → Read last (take (last .left) buf) r buf′ → r .going ≡ Over
     → (out out′ : List ℕ) → closingRoom ≤ length out → out′ ≡ fronted (finishText (r .state) (ltb 0 (r .left)) (length out)) out → Ran r buf′ out′
 ended t b g out out′ h e =
     record {

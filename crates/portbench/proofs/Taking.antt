@@ -1,4 +1,4 @@
--- The records of a block, taken by one call of `feed` after the other. Assumes nothing.
+-- The records of a chunk, used by one call of `feed` after the other. Assumes nothing.
 use Prim.Native.Nat.{ℕ, _+_, _-_, _/_, _≤_, _<_}
 use native.Mathlib.Omega.{arith}
 use mathlib.Core.Path.{_≡_, refl, sym, ap, _∙_}
@@ -13,10 +13,10 @@ use Rattle.session.specs.declared.Stop.{Stop}
 use Rattle.session.specs.declared.Stop.the-variants.{Full, Bad, Cut, End}
 use Rattle.session.specs.declared.Fed.{Fed}
 use Rattle.session.specs.Run.{Entry, isWhole, recordsOf, restOf, ran, lineRoom, stopOf, fedOf}
-use Rattle.session.proofs.Blocks.{Reads, here, reads-of, joined, fewer, all-of, ran-append, rest-unused, full-used}
-use Rattle.portbench.specs.declared.Block.{Block}
+use Rattle.session.proofs.Chunks.{Reads, here, reads-of, joined, fewer, all-of, ran-append, rest-unused, full-used}
+use Rattle.portbench.specs.declared.Chunk.{Chunk}
 use Rattle.portbench.specs.declared.Going.the-variants.{On}
-use Rattle.portbench.specs.Kept.{toFront, goingOn, blockOf, Taken, taken}
+use Rattle.portbench.specs.Kept.{toFront, goingOn, chunkOf, Used, used}
 
 -- the form of what stands where a call of `feed` stopped
 abbrev formAt : Stop → Form
@@ -39,7 +39,7 @@ part-of from to buf h k =
     ∙ ap (λ (l : List ℕ). drop from l) (take-add from (to - from) buf)
     ∙ drop-at (take from buf) (take (to - from) (drop from buf)) from (length-take-le from buf (omega arith)))
 
--- of the octets before `to`, the records before `from` are taken: they led from st to st′
+-- of the octets before `to`, the records before `from` are used: they led from st to st′
 pub record Way (st : State) (to : ℕ) (buf₀ buf : List ℕ) (st′ : State) (from : ℕ) : Type 0 where
   pub same : buf ≡ buf₀
   pub fits : to ≤ length buf
@@ -72,18 +72,18 @@ module _ {st : State} {to : ℕ} {buf₀ buf : List ℕ} {st′ : State} {from :
   short bad e n g = let z : _≡_ {A = ℕ} 0 1 = cc in absurd (omega arith)
   short whole e n g = let z : _≡_ {A = ℕ} 0 1 = cc in absurd (omega arith)
 
-  -- where no whole record stands, all are taken
-  done : {f : Form} → form (slice from to buf) ≡ f → isWhole f ≡ false → {r : Block} → r ≡ record { state = st′; left = to - from; going = goingOn f }
-      → (buf′ : List ℕ) → buf′ ≡ toFront from (to - from) buf → Taken st (take to buf₀) r buf′
+  -- where no whole record stands, all are used
+  done : {f : Form} → form (slice from to buf) ≡ f → isWhole f ≡ false → {r : Chunk} → r ≡ record { state = st′; left = to - from; going = goingOn f }
+      → (buf′ : List ℕ) → buf′ ≡ toFront from (to - from) buf → Used st (take to buf₀) r buf′
   done {f} e none {r} hr buf′ hb =
       let s = take to buf in
       let last : isWhole (form (slice from to buf)) ≡ false = ap isWhole e ∙ none in
       let all = all-of (length s) (w .reads) last (fewer (w .reads)) in
-      let block : blockOf st s ≡ record { state = st′; left = to - from; going = goingOn f } = rw (all .0, all .1, w .state, e, size) in
+      let chunk : chunkOf st s ≡ record { state = st′; left = to - from; going = goingOn f } = rw (all .0, all .1, w .state, e, size) in
       let front : take (to - from) (toFront from (to - from) buf) ≡ slice from to buf =
       take-at (take (to - from) (drop from buf)) (drop (to - from) buf) (to - from) (ap length here-are ∙ size) ∙ here-are in
       let room : r .going ≡ On → r .left < mostOctets = λ g. rw hr (short f e none (rw hr at g)) in
-      rw (← w .same) (taken (hr ∙ sym block) (rw (all .1) last) (rw (hr, hb, all .1) front) room)
+      rw (← w .same) (used (hr ∙ sym chunk) (rw (all .1) last) (rw (hr, hb, all .1) front) room)
 
 -- a call of `feed`
 module _ {st : State} {to : ℕ} {buf₀ buf : List ℕ} {st′ : State} {from : ℕ} (w : Way st to buf₀ buf st′ from) (room : ℕ) (fed : Fed)
@@ -97,9 +97,9 @@ module _ {st : State} {to : ℕ} {buf₀ buf : List ℕ} {st′ : State} {from :
       ∙ sym (drop-drop (fedOf st′ (slice from to buf) room .used) from (take to buf))
       ∙ rest-unused st′ (slice from to buf) room
 
-  stands : form (slice (from + fed .used) to buf) ≡ formAt (fed .stop)
+  form-behind : form (slice (from + fed .used) to buf) ≡ formAt (fed .stop)
   unfolding fedOf
-  stands = ap form behind ∙ form-at (form (restOf (room / lineRoom) (slice from to buf))) ∙ ap (λ (f : Fed). formAt (f .stop)) (sym called)
+  form-behind = ap form behind ∙ form-at (form (restOf (room / lineRoom) (slice from to buf))) ∙ ap (λ (f : Fed). formAt (f .stop)) (sym called)
 
   pub again : Way st to buf₀ buf (fed .state) (from + fed .used)
   unfolding fedOf
@@ -120,12 +120,12 @@ module _ {st : State} {to : ℕ} {buf₀ buf : List ℕ} {st′ : State} {from :
   -- one that was out of room leaves less
   pub falls : lineRoom ≤ room → fed .stop ≡ Full → to - (from + fed .used) < to - from
   falls h g =
-      let f : form (restOf (room / lineRoom) (slice from to buf)) ≡ whole = sym (ap form behind) ∙ stands ∙ ap formAt g in
+      let f : form (restOf (room / lineRoom) (slice from to buf)) ≡ whole = sym (ap form behind) ∙ form-behind ∙ ap formAt g in
       let used : 0 < fed .used = rw called (full-used st′ (slice from to buf) room h f) in
       omega (arith, again .within)
 
   -- one that was not is the last
-  pub ends : {x : Stop} → fed .stop ≡ x → isWhole (formAt x) ≡ false → {r : Block}
+  pub ends : {x : Stop} → fed .stop ≡ x → isWhole (formAt x) ≡ false → {r : Chunk}
       → r ≡ record { state = fed .state; left = to - (from + fed .used); going = goingOn (formAt x) }
-      → (buf′ : List ℕ) → buf′ ≡ toFront (from + fed .used) (to - (from + fed .used)) buf → Taken st (take to buf₀) r buf′
-  ends g none = done again (stands ∙ ap formAt g) none
+      → (buf′ : List ℕ) → buf′ ≡ toFront (from + fed .used) (to - (from + fed .used)) buf → Used st (take to buf₀) r buf′
+  ends g none = done again (form-behind ∙ ap formAt g) none

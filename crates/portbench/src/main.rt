@@ -1,6 +1,6 @@
-// Reads a session from standard input, in blocks, and prints what it comes to (document 01, "The session program"). What is right is in the
-// contracts of `session`; here it is proved that no step goes wrong, that the program ends, that each read has room, what each block comes to and
-// what is kept of it, that reading goes on as long as it may, and what `finish` makes of the last block.
+// Reads a session from standard input, in chunks, and prints what it comes to (document 01, "The session program"). What is right is in the
+// contracts of `session`; here it is proved that no step goes wrong, that the program ends, that each read has room, what each chunk comes to and
+// what is kept of it, that reading goes on as long as it may, and what `finish` makes of the last chunk.
 ghost use mathlib.Core.Path.{_≡_};
 ghost use Prim.Native.Nat.{_-_, _<_, _≤_};
 ghost use lib.Dec.{ltb};
@@ -24,20 +24,20 @@ enum Going {
     Stopped,
 }
 
-// After a block. `left`: how many octets that are no whole record stand behind those that were read.
-struct Block {
+// After a chunk. `left`: how many octets that are no whole record stand behind those that were read.
+struct Chunk {
     state: State,
     left: usize,
     going: Going,
 }
 
-fn after(state: State, left: usize, going: Going) -> Block
+fn after(state: State, left: usize, going: Going) -> Chunk
     ensures { λ r. ⌜ r ≡ record { state = state; left = left; going = going } ⌝ }
 {
-    Block { state, left, going }
+    Chunk { state, left, going }
 }
 
-fn move_front(buf: &mut [u8], from: usize, to: usize)
+fn copy_front(buf: &mut [u8], from: usize, to: usize)
     requires { ⌜ from ≤ to ⌝ }
     requires { ⌜ to ≤ length (now buf) ⌝ }
     ensures { λ _. ⌜ now (buf .exit) ≡ kept.toFront from (to - from) (now (buf .entry)) ⌝ }
@@ -49,22 +49,22 @@ fn move_front(buf: &mut [u8], from: usize, to: usize)
     }
 }
 
-fn keep(state: State, buf: &mut [u8], from: usize, to: usize, going: Going) -> Block
+fn keep(state: State, buf: &mut [u8], from: usize, to: usize, going: Going) -> Chunk
     requires { ⌜ from ≤ to ⌝ }
     requires { ⌜ to ≤ length (now buf) ⌝ }
     ensures { λ r. ⌜ r ≡ record { state = state; left = to - from; going = going } ⌝ }
     ensures { λ _. ⌜ now (buf .exit) ≡ kept.toFront from (to - from) (now (buf .entry)) ⌝ }
 {
-    move_front(buf, from, to);
+    copy_front(buf, from, to);
     after(state, to - from, going)
 }
 
-// Takes the whole records of buf's octets before `to`, and moves what is left to the front. A call of `feed` that is out of room has taken a
+// Uses the whole records of buf's octets before `to`, and copies what is left to the front. A call of `feed` that is out of room has used a
 // record at least, since there is room for a line.
-fn take_records(st: State, buf: &mut [u8], to: usize, out: &mut [u8]) -> Block
+fn use_records(st: State, buf: &mut [u8], to: usize, out: &mut [u8]) -> Chunk
     requires { ⌜ to ≤ length (now buf) ⌝ }
     requires { ⌜ runs.lineRoom ≤ length (now out) ⌝ }
-    ensures { λ r. ⌜ kept.Taken st (take to (now (buf .entry))) r (now (buf .exit)) ⌝ }
+    ensures { λ r. ⌜ kept.Used st (take to (now (buf .entry))) r (now (buf .exit)) ⌝ }
 {
     let mut state = st;
     let mut from: usize = 0;
@@ -93,8 +93,8 @@ fn take_records(st: State, buf: &mut [u8], to: usize, out: &mut [u8]) -> Block
     }
 }
 
-// What `read` answered after it put octets behind those that are left from the last block. There was room for one, so none are the end.
-fn take_read(last: Block, buf: &mut [u8], got: isize, out: &mut [u8]) -> Block
+// What `read` answered after it put octets behind those that are left from the last chunk. There was room for one, so none are the end.
+fn use_read(last: Chunk, buf: &mut [u8], got: isize, out: &mut [u8]) -> Chunk
     requires { ⌜ last .left < length (now buf) ⌝ }
     requires { ⌜ Moved (length (now buf) - last .left) got ⌝ }
     requires { ⌜ runs.lineRoom ≤ length (now out) ⌝ }
@@ -110,31 +110,31 @@ fn take_read(last: Block, buf: &mut [u8], got: isize, out: &mut [u8]) -> Block
     if n == 0 {
         return after(state, have, Going::Over);
     }
-    take_records(state, buf, have + n, out)
+    use_records(state, buf, have + n, out)
 }
 
 // One read, behind the octets that are left from the last.
-fn read_block(last: Block, buf: &mut [u8], out: &mut [u8]) -> Block
+fn read_chunk(last: Chunk, buf: &mut [u8], out: &mut [u8]) -> Chunk
     requires { ⌜ last .left < length (now buf) ⌝ }
     requires { ⌜ runs.lineRoom ≤ length (now out) ⌝ }
     ensures { λ r. ⌜ kept.Read last (take (last .left) (now (buf .entry))) r (now (buf .exit)) ⌝ }
 {
     let have = last.left;
     let got = libc::read(STDIN_FILENO, &mut buf[have..]);
-    take_read(last, buf, got, out)
+    use_read(last, buf, got, out)
 }
 
 // Where octets are left, they are a 13.
-fn finish(last: Block, out: &mut [u8])
+fn finish(last: Chunk, out: &mut [u8])
     ensures { λ _. ⌜ now (out .exit) ≡ runs.fronted (runs.finishText (last .state) (ltb 0 (last .left)) (length (now (out .entry)))) (now (out .entry)) ⌝ }
 {
     let n = session::finish(last.state, last.left > 0, out);
     io::write_all(STDOUT_FILENO, &out[..n]);
 }
 
-// Nothing says that the input ends, and a loop has to: so it counts its turns down, from a number that no run uses up. The last block is
+// Nothing says that the input ends, and a loop has to: so it counts its turns down, from a number that no run uses up. The last chunk is
 // returned so that the contract can speak of it.
-fn run(buf: &mut [u8], out: &mut [u8]) -> Block
+fn run(buf: &mut [u8], out: &mut [u8]) -> Chunk
     requires { ⌜ mostOctets ≤ length (now buf) ⌝ }
     requires { ⌜ runs.closingRoom ≤ length (now out) ⌝ }
     ensures { λ r. ⌜ kept.Ran r (now (buf .exit)) (now (out .exit)) ⌝ }
@@ -143,7 +143,7 @@ fn run(buf: &mut [u8], out: &mut [u8]) -> Block
     let mut turns = u64::MAX;
     while turns > 0 {
         turns -= 1;
-        last = read_block(last, buf, out);
+        last = read_chunk(last, buf, out);
         let going = last.going;
         match going {
             Going::On => {}

@@ -79,7 +79,7 @@ abbrev offsetsIn : List Rule → List ℕ
 offsetsIn [] = []
 offsetsIn (rule broken refusal ∷ rules) = offsetOf refusal ∷ offsetsIn rules
 
--- "the lowest such offset is returned": the offsets are judged in their order, whatever stands in the block
+-- "the lowest such offset is returned": the offsets are looked at in their order, whatever stands in the block
 pub lowest-first : (x : ℕ)
     → offsetsIn (deviceRules x x x x x x ++ protocolRules x x x x ++ descriptionRules x ++ inputRules x x x x x x x ++ outputRules x x x x x x x)
     ≡ 3 ∷ 4 ∷ 6 ∷ 8 ∷ 12 ∷ 13 ∷ 22 ∷ 25 ∷ 26 ∷ 27 ∷ 37 ∷ 38 ∷ 39 ∷ 43 ∷ 44 ∷ []

@@ -9,12 +9,12 @@ use lib.Dec.{eqb, ltb}
 use lib.ListN.{length, length-append, List·getD-append}
 use native.Mathlib.Omega.{arith}
 use Rattle.scl.proofs.Cases.{and-right}
-use Rattle.record.specs.Format.{at, kindOf, portOf, clockOf, lengthOf, sizeOf, mostOctets, headOctets, markHolds, lengthIn, kinds, headHolds, octetHolds, Form, nothing, part, bad, whole, formBy, form, place}
+use Rattle.record.specs.Format.{at, kindOf, portOf, clockOf, lengthOf, sizeOf, mostOctets, headOctets, recordMarkHolds, lengthIn, kinds, headHolds, octetHolds, Form, nothing, part, bad, whole, formBy, form, recordBy}
 use Rattle.record.specs.declared.Record.the-variants.{Whole, Bad, Cut, End}
 
 -- a record of kind 4 whose head holds has the length 1
 pub four : (s : List ℕ) → headHolds s ≡ true → kindOf s ≡ 4 → lengthOf s ≡ 1
-four s h k = eqb-true (lengthOf s) 1 (and-right (markHolds s) (eqb (lengthOf s) 1) (rw k at h))
+four s h k = eqb-true (lengthOf s) 1 (and-right (recordMarkHolds s) (eqb (lengthOf s) 1) (rw k at h))
 
 others-by : (a b c e f z : Bool)
     → cond a true (cond b true (cond c e (cond false f false))) ≡ true → cond a true (cond b true (cond c true (cond false z false))) ≡ true
@@ -28,7 +28,7 @@ pub others : (s : List ℕ) → headHolds s ≡ true → eqb (kindOf s) 4 ≡ fa
 others s h e =
     rw e
     (others-by (eqb (kindOf s) 1) (eqb (kindOf s) 2) (eqb (kindOf s) 3) (eqb (lengthOf s) 0) (eqb (lengthOf s) 1) (ltb (at s 9) 4)
-    (rw e at (and-right (markHolds s) (lengthIn kinds (kindOf s) (lengthOf s)) h)))
+    (rw e at (and-right (recordMarkHolds s) (lengthIn kinds (kindOf s) (lengthOf s)) h)))
 
 -- what a test `!r` says of b, where r is b
 pub off : {r b : Bool} → r ≡ b → not r ≡ true → b ≡ false
@@ -41,32 +41,32 @@ on {r} e h = sym e ∙ not-false r h
 
 -- what an answer says of the form that it is made from
 pub record Found (f : Form) (s : List ℕ) (p k q c b n : ℕ) : Type 0 where
-  pub stands : f ≡ whole
+  pub is-whole : f ≡ whole
   pub kind : k ≡ kindOf s
   pub port : q ≡ portOf s
   pub clock : c ≡ clockOf s
   pub start : b ≡ p + headOctets
   pub next : n ≡ p + sizeOf s
 
-pub whole-found : (f : Form) (s : List ℕ) (p k q c b n : ℕ) → place f s p ≡ Whole k q c b n → Found f s p k q c b n
-whole-found nothing s p k q c b n e = record { stands = cc; kind = cc; port = cc; clock = cc; start = cc; next = cc }
-whole-found part s p k q c b n e = record { stands = cc; kind = cc; port = cc; clock = cc; start = cc; next = cc }
-whole-found bad s p k q c b n e = record { stands = cc; kind = cc; port = cc; clock = cc; start = cc; next = cc }
-whole-found whole s p k q c b n e = record { stands = refl; kind = cc; port = cc; clock = cc; start = cc; next = cc }
+pub whole-found : (f : Form) (s : List ℕ) (p k q c b n : ℕ) → recordBy f s p ≡ Whole k q c b n → Found f s p k q c b n
+whole-found nothing s p k q c b n e = record { is-whole = cc; kind = cc; port = cc; clock = cc; start = cc; next = cc }
+whole-found part s p k q c b n e = record { is-whole = cc; kind = cc; port = cc; clock = cc; start = cc; next = cc }
+whole-found bad s p k q c b n e = record { is-whole = cc; kind = cc; port = cc; clock = cc; start = cc; next = cc }
+whole-found whole s p k q c b n e = record { is-whole = refl; kind = cc; port = cc; clock = cc; start = cc; next = cc }
 
-pub bad-found : (f : Form) (s : List ℕ) (p : ℕ) → place f s p ≡ Bad → f ≡ bad
+pub bad-found : (f : Form) (s : List ℕ) (p : ℕ) → recordBy f s p ≡ Bad → f ≡ bad
 bad-found nothing s p e = cc
 bad-found part s p e = cc
 bad-found bad s p e = refl
 bad-found whole s p e = cc
 
-pub end-found : (f : Form) (s : List ℕ) (p : ℕ) → place f s p ≡ End → f ≡ nothing
+pub end-found : (f : Form) (s : List ℕ) (p : ℕ) → recordBy f s p ≡ End → f ≡ nothing
 end-found nothing s p e = refl
 end-found part s p e = cc
 end-found bad s p e = cc
 end-found whole s p e = cc
 
-pub cut-found : (f : Form) (s : List ℕ) (p : ℕ) → place f s p ≡ Cut → f ≡ part
+pub cut-found : (f : Form) (s : List ℕ) (p : ℕ) → recordBy f s p ≡ Cut → f ≡ part
 cut-found nothing s p e = cc
 cut-found part s p e = refl
 cut-found bad s p e = cc

@@ -11,8 +11,8 @@ use Rattle.record.specs.declared.Record.the-variants.{Whole, Bad, Cut, E
 abbrev pub at : List ℕ → ℕ → ℕ
 at s k = getD s k 0
 
-abbrev pub markHolds : List ℕ → Bool
-markHolds s = eqb (at s 0) 0x53 && eqb (at s 1) 0x4C
+abbrev pub recordMarkHolds : List ℕ → Bool
+recordMarkHolds s = eqb (at s 0) 0x53 && eqb (at s 1) 0x4C
 
 abbrev pub kindOf : List ℕ → ℕ
 kindOf s = at s 2
@@ -69,7 +69,7 @@ octetIn [] k x = false
 octetIn (kind number length octet ∷ rows) k x = cond (eqb k number) (octet x) (octetIn rows k x)
 
 abbrev pub headHolds : List ℕ → Bool
-headHolds s = markHolds s && lengthIn kinds (kindOf s) (lengthOf s)
+headHolds s = recordMarkHolds s && lengthIn kinds (kindOf s) (lengthOf s)
 
 abbrev pub octetHolds : List ℕ → Bool
 octetHolds s = octetIn kinds (kindOf s) (at s headOctets)
@@ -90,12 +90,12 @@ abbrev pub form : List ℕ → Form
 form s = formBy (eqb (length s) 0) (ltb (length s) headOctets) (headHolds s) (ltb (length s) (sizeOf s)) (octetHolds s)
 
 -- the record that s begins with, s standing at position p: a whole one's octets are from p + 9 to the position past it
-abbrev pub place : Form → List ℕ → ℕ → Record
-place nothing s p = End
-place part s p = Cut
-place bad s p = Bad
-place whole s p = Whole (kindOf s) (portOf s) (clockOf s) (p + headOctets) (p + sizeOf s)
+abbrev pub recordBy : Form → List ℕ → ℕ → Record
+recordBy nothing s p = End
+recordBy part s p = Cut
+recordBy bad s p = Bad
+recordBy whole s p = Whole (kindOf s) (portOf s) (clockOf s) (p + headOctets) (p + sizeOf s)
 
 -- what stands at a position of s
 abbrev pub recordAt : List ℕ → ℕ → Record
-recordAt s p = place (form (drop p s)) (drop p s) p
+recordAt s p = recordBy (form (drop p s)) (drop p s) p

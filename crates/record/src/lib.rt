@@ -36,7 +36,7 @@ pub fn read_record(s: &[u8], at: usize) -> Record
 // What s begins with, s standing at position p.
 fn read_first(s: &[u8], p: usize) -> Record
     requires { ⌜ p + length (now s) < 2 ^ 64 ⌝ }
-    ensures { λ r. ⌜ r ≡ format.place (format.form (now (s .entry))) (now (s .entry)) p ⌝ }
+    ensures { λ r. ⌜ r ≡ format.recordBy (format.form (now (s .entry))) (now (s .entry)) p ⌝ }
 {
     if s.len() == 0 {
         return Record::End;

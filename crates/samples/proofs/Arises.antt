@@ -7,16 +7,16 @@ use mathlib.Core.List.{List, [], _∷_, map}
 use mathlib.Core.Logic.{inl, inr}
 use lib.ListN.{drop}
 use Rattle.scl.specs.Time.{elapsedOf}
-use Rattle.scl.specs.Moved.{movedPast, OnClock, none, more}
+use Rattle.scl.specs.Delayed.{delayedPast, OnClock, none, more}
 use Rattle.scl.specs.declared.Happening.{Happening}
 use Rattle.scl.specs.declared.Happening.the-variants as happening
 use Rattle.scl.specs.declared.Response.{Response}
-use Rattle.fs_master.specs.Table38.{watchdogRow, isOld, isTaken, checked, from8, arrivalRow, taken, sampleFrom, t4, t8, t12, t13, t14, acted}
-use Rattle.fs_master.specs.Calls.{judged, quiet, arrived, received, watched, stepOf}
-use Rattle.fs_master.specs.History.{masterAfter, judgedIn, passesBy, previousBy, lastTaken, isOldAfter}
-use Rattle.samples.specs.Samples.{oldBy, sentSince, answered, timeOf, isSample, samples}
+use Rattle.fs_master.specs.Table38.{watchdogRow, isOld, isAdmitted, checked, from8, arrivalRow, admitted, startFrom, t4, t8, t12, t13, t14, acted}
+use Rattle.fs_master.specs.Calls.{watched, quiet, arrived, received, clocked, stepOf}
+use Rattle.fs_master.specs.History.{masterAfter, watchedIn, passesBy, previousBy, lastAdmitted, isOldAfter}
+use Rattle.samples.specs.Samples.{oldBy, sentSince, passedForCount, timeOf, isSample, samples}
 use Rattle.samples.proofs.Samples.{repeated}
-use Rattle.samples.proofs.Wrap.{moved-samples}
+use Rattle.samples.proofs.Wrap.{delayed-samples}
 
 -- a response of this DCount_i whose signature holds or not
 abbrev response : ℕ → Bool → Response
@@ -52,7 +52,7 @@ table =
     line (answers 580 5) 10 true
     -- damaged
     ∷ line (happening.Response 570 (response 6 false)) 5 false
-    -- taken, as MCount is 0 again, and passes; but 7 was the last one's count too
+    -- admitted, as MCount is 0 again, and passes; but 7 was the last one's count too
     ∷ line (answers 565 7) 5 false
     ∷ line (happening.Clock 560) 0 false
     -- the watchdog sends 0 in this very call, and the answer to an earlier 0 counts (R17)
@@ -80,10 +80,10 @@ seen [] = []
 seen (h ∷ past) = line h (timeOf block 100 past h) (isSample block 100 past h) ∷ seen past
 
 pub course-arises : (seen course ≡ table) × (samples block 100 course ≡ 100 ∷ 10 ∷ 0 ∷ 10 ∷ [])
-unfolding seen samples isSample timeOf sentSince answered oldBy masterAfter judgedIn passesBy previousBy lastTaken isOldAfter stepOf watched quiet received arrived judged acted t4 t8 t12 t13 t14 taken isOld isTaken checked from8 arrivalRow watchdogRow sampleFrom elapsedOf
+unfolding seen samples isSample timeOf sentSince passedForCount oldBy masterAfter watchedIn passesBy previousBy lastAdmitted isOldAfter stepOf clocked quiet received arrived watched acted t4 t8 t12 t13 t14 admitted isOld isAdmitted checked from8 arrivalRow watchdogRow startFrom elapsedOf
 course-arises = (refl, refl)
 
--- before the call that was taken though old
+-- before the call that was admitted though old
 abbrev past : List Happening
 past = drop 3 course
 
@@ -95,12 +95,12 @@ on-clock = more {h = answers 5 7} (omega arith) (more {h = answers 4294967250 3}
 pub record Met : Type 0 where
   repeated-carried : isSample block 100 past (answers 565 7) ≡ false
   repeated-awaited : isSample block 100 past (answers 565 7) ≡ false
-  moved-samples : samples 4 100 (movedPast 100 (drop 11 course)) ≡ samples block 100 (drop 11 course)
+  delayed-samples : samples 4 100 (delayedPast 100 (drop 11 course)) ≡ samples block 100 (drop 11 course)
 
 pub premises-met : Met
-unfolding masterAfter judgedIn previousBy lastTaken stepOf watched quiet received arrived judged acted t4 t8 t12 t13 t14 taken isOld isTaken checked from8 arrivalRow watchdogRow sampleFrom elapsedOf
+unfolding masterAfter watchedIn previousBy lastAdmitted stepOf clocked quiet received arrived watched acted t4 t8 t12 t13 t14 admitted isOld isAdmitted checked from8 arrivalRow watchdogRow startFrom elapsedOf
 premises-met = record {
   repeated-carried = repeated block 100 past 565 (response 7 true) refl (inl refl);
   repeated-awaited = repeated block 100 past 565 (response 7 true) refl (inr refl);
-  moved-samples = moved-samples 100 block 100 (omega arith) on-clock;
+  delayed-samples = delayed-samples 100 block 100 (omega arith) on-clock;
 }

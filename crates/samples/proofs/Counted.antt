@@ -15,7 +15,7 @@ use Rattle.fs_master.proofs.Samples.{stepOf-sent}
 use Rattle.histogram.specs.declared.Histogram.{Histogram}
 use Rattle.histogram.specs.declared.Totals.{Totals}
 use Rattle.histogram.specs.declared.Sampled.{Sampled}
-use Rattle.histogram.specs.Samples.{binOf, Within, none, Holds}
+use Rattle.histogram.specs.Samples.{binOf, Within, none, CountsToLimit}
 use Rattle.histogram.specs.Counted.{withBins, raisedIf, countedOf, totalledOf}
 use Rattle.histogram.proofs.Counting.{cleared-holds, counted-holds}
 use Rattle.histogram.proofs.Parts.{counted-parts}
@@ -54,8 +54,8 @@ module _ (at w : ℕ) (past : List Happening) (h : Happening) where
   one-within within true e = within-more (timeOf at w past h) within (in-time e)
   one-within within false e = rw append-nil within
 
-  one-more : (k : Histogram) → w ≤ 65535 → Within w (samples at w past) → Holds w (samples at w past) k
-      → (b : Bool) → isSample at w past h ≡ b → Holds w (samples at w past ++ cond b (timeOf at w past h ∷ []) []) (cond b (countedOf k w (timeOf at w past h)) k)
+  one-more : (k : Histogram) → w ≤ 65535 → Within w (samples at w past) → CountsToLimit w (samples at w past) k
+      → (b : Bool) → isSample at w past h ≡ b → CountsToLimit w (samples at w past ++ cond b (timeOf at w past h ∷ []) []) (cond b (countedOf k w (timeOf at w past h)) k)
   one-more k small within holds true e = counted-holds small within holds (timeOf at w past h) (in-time e)
   one-more k small within holds false e = rw append-nil holds
 
@@ -67,7 +67,7 @@ module _ (at w : ℕ) where
   samples-within (h ∷ past) = one-within at w past h (samples-within past) (isSample at w past h) refl
 
   -- bins, total, sum, lowest and highest are those of the samples, up to the freeze
-  pub samples-held : (past : List Happening) → w ≤ 65535 → Holds w (samples at w past) (histogramAfter at w past)
+  pub samples-held : (past : List Happening) → w ≤ 65535 → CountsToLimit w (samples at w past) (histogramAfter at w past)
   unfolding samples histogramAfter
   samples-held [] small = cleared-holds w
   samples-held (h ∷ past) small =

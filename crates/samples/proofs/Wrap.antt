@@ -1,4 +1,4 @@
--- The wrap of the clock changes no sample and no histogram: all readings since a block moved, and the block's. Assumes nothing.
+-- The wrap of the clock changes no sample and no histogram: all readings since a block delayed, and the block's. Assumes nothing.
 use Prim.Native.Nat.{ℕ, _<_, _^_}
 use mathlib.Core.Path.{_≡_, refl, sym, ap, ap₂, _∙_}
 use mathlib.Core.Bool.{Bool, cond, not, _&&_}
@@ -6,27 +6,27 @@ use mathlib.Core.List.{List, [], _∷_, _++_}
 use lib.Dec.{leb}
 use Rattle.scl.specs.Time.{elapsedOf}
 use Rattle.scl.specs.Happenings.{readingOf}
-use Rattle.scl.specs.Moved.{moved, movedHappening, movedPast, OnClock, none, more}
+use Rattle.scl.specs.Delayed.{delayed, delayedHappening, delayedPast, OnClock, none, more}
 use Rattle.scl.specs.declared.Happening.{Happening}
 use Rattle.scl.specs.declared.Happening.the-variants as happening
 use Rattle.scl.proofs.Time.{shifted}
 use Rattle.fs_master.specs.declared.Outcome.{Outcome}
 use Rattle.fs_master.specs.Calls.{stepOf}
-use Rattle.fs_master.specs.History.{masterAfter, movedOutcome}
+use Rattle.fs_master.specs.History.{masterAfter, delayedOutcome}
 use Rattle.fs_master.proofs.Samples.{stepOf-sent}
-use Rattle.fs_master.proofs.Moved.{moved-call, sent-fits}
+use Rattle.fs_master.proofs.Delayed.{delayed-call, sent-fits}
 use Rattle.histogram.specs.declared.Histogram.{Histogram}
 use Rattle.histogram.specs.Counted.{countedOf}
 use Rattle.samples.specs.Samples.{timeOf, isSample, samples, histogramAfter}
 use Rattle.samples.proofs.Samples.{time-is, sample-is}
 use Rattle.samples.proofs.Counted.{counts}
 
-moved-reading : (k : ℕ) (h : Happening) → readingOf (movedHappening k h) ≡ moved k (readingOf h)
-unfolding movedHappening
-moved-reading k (happening.Response at f) = refl
-moved-reading k (happening.Request at q) = refl
-moved-reading k (happening.Clock at) = refl
-moved-reading k (happening.Operator at «setSD_C» «ChFAck_C») = refl
+delayed-reading : (k : ℕ) (h : Happening) → readingOf (delayedHappening k h) ≡ delayed k (readingOf h)
+unfolding delayedHappening
+delayed-reading k (happening.Response at f) = refl
+delayed-reading k (happening.Request at q) = refl
+delayed-reading k (happening.Clock at) = refl
+delayed-reading k (happening.Operator at «setSD_C» «ChFAck_C») = refl
 
 module _ (at w : ℕ) (past : List Happening) (h : Happening) where
   -- a response's time and whether it is a sample, by what its call says
@@ -34,38 +34,38 @@ module _ (at w : ℕ) (past : List Happening) (h : Happening) where
   time-by = sym (ap (elapsedOf (readingOf h)) (stepOf-sent (masterAfter at w past) w h) ∙ time-is at w past h)
 
 module _ (k at w : ℕ) (fits : at < 2 ^ 32) where
-  pub moved-time : {past : List Happening} → OnClock past → (h : Happening) → readingOf h < 2 ^ 32
-      → timeOf (moved k at) w (movedPast k past) (movedHappening k h) ≡ timeOf at w past h
-  unfolding movedOutcome
-  moved-time {past} rest h r =
+  pub delayed-time : {past : List Happening} → OnClock past → (h : Happening) → readingOf h < 2 ^ 32
+      → timeOf (delayed k at) w (delayedPast k past) (delayedHappening k h) ≡ timeOf at w past h
+  unfolding delayedOutcome
+  delayed-time {past} rest h r =
       let o = stepOf (masterAfter at w past) w h in
-      time-by (moved k at) w (movedPast k past) (movedHappening k h)
-      ∙ ap₂ elapsedOf (moved-reading k h) (ap (λ (x : Outcome). x .sent) (moved-call k at w fits rest h r))
+      time-by (delayed k at) w (delayedPast k past) (delayedHappening k h)
+      ∙ ap₂ elapsedOf (delayed-reading k h) (ap (λ (x : Outcome). x .sent) (delayed-call k at w fits rest h r))
       ∙ shifted (readingOf h) (o .sent) k r (sent-fits at w fits rest h r)
       ∙ sym (time-by at w past h)
 
-  pub moved-sample : {past : List Happening} → OnClock past → (h : Happening) → readingOf h < 2 ^ 32
-      → isSample (moved k at) w (movedPast k past) (movedHappening k h) ≡ isSample at w past h
-  unfolding movedOutcome
-  moved-sample {past} rest h r =
-      sample-is (moved k at) w (movedPast k past) (movedHappening k h)
-      ∙ ap₂ (λ (o : Outcome) (t : ℕ). (o .passed && not (o .old)) && leb t w) (moved-call k at w fits rest h r) (moved-time rest h r)
+  pub delayed-sample : {past : List Happening} → OnClock past → (h : Happening) → readingOf h < 2 ^ 32
+      → isSample (delayed k at) w (delayedPast k past) (delayedHappening k h) ≡ isSample at w past h
+  unfolding delayedOutcome
+  delayed-sample {past} rest h r =
+      sample-is (delayed k at) w (delayedPast k past) (delayedHappening k h)
+      ∙ ap₂ (λ (o : Outcome) (t : ℕ). (o .passed && not (o .old)) && leb t w) (delayed-call k at w fits rest h r) (delayed-time rest h r)
       ∙ sym (sample-is at w past h)
 
   -- The samples since the block are the same,
-  pub moved-samples : {past : List Happening} → OnClock past → samples (moved k at) w (movedPast k past) ≡ samples at w past
+  pub delayed-samples : {past : List Happening} → OnClock past → samples (delayed k at) w (delayedPast k past) ≡ samples at w past
   unfolding samples
-  moved-samples none = refl
-  moved-samples (more {h} {past} r rest) =
-      ap₂ (λ (a b : List ℕ). a ++ b) (moved-samples rest)
-      (ap₂ (λ (b : Bool) (t : ℕ). cond b (t ∷ []) []) (moved-sample rest h r) (moved-time rest h r))
+  delayed-samples none = refl
+  delayed-samples (more {h} {past} r rest) =
+      ap₂ (λ (a b : List ℕ). a ++ b) (delayed-samples rest)
+      (ap₂ (λ (b : Bool) (t : ℕ). cond b (t ∷ []) []) (delayed-sample rest h r) (delayed-time rest h r))
 
   -- and so is the histogram.
-  pub moved-histogram : {past : List Happening} → OnClock past → histogramAfter (moved k at) w (movedPast k past) ≡ histogramAfter at w past
+  pub delayed-histogram : {past : List Happening} → OnClock past → histogramAfter (delayed k at) w (delayedPast k past) ≡ histogramAfter at w past
   unfolding histogramAfter
-  moved-histogram none = refl
-  moved-histogram (more {h} {past} r rest) =
-      counts (moved k at) w (movedPast k past) (movedHappening k h) (histogramAfter (moved k at) w (movedPast k past))
-      ∙ ap (λ (g : Histogram). cond (isSample (moved k at) w (movedPast k past) (movedHappening k h)) (countedOf g w (timeOf (moved k at) w (movedPast k past) (movedHappening k h))) g) (moved-histogram rest)
-      ∙ ap₂ (λ (b : Bool) (t : ℕ). cond b (countedOf (histogramAfter at w past) w t) (histogramAfter at w past)) (moved-sample rest h r) (moved-time rest h r)
+  delayed-histogram none = refl
+  delayed-histogram (more {h} {past} r rest) =
+      counts (delayed k at) w (delayedPast k past) (delayedHappening k h) (histogramAfter (delayed k at) w (delayedPast k past))
+      ∙ ap (λ (g : Histogram). cond (isSample (delayed k at) w (delayedPast k past) (delayedHappening k h)) (countedOf g w (timeOf (delayed k at) w (delayedPast k past) (delayedHappening k h))) g) (delayed-histogram rest)
+      ∙ ap₂ (λ (b : Bool) (t : ℕ). cond b (countedOf (histogramAfter at w past) w t) (histogramAfter at w past)) (delayed-sample rest h r) (delayed-time rest h r)
       ∙ sym (counts at w past h (histogramAfter at w past))

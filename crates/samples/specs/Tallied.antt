@@ -11,12 +11,12 @@ use Rattle.histogram.specs.declared.Histogram.{Histogram}
 use Rattle.histogram.specs.declared.Totals.{Totals}
 use Rattle.histogram.specs.declared.Sampled.{Sampled}
 use Rattle.histogram.specs.Counted.{countedOf, totalledOf}
-use Rattle.samples.specs.declared.Moved.{Moved}
+use Rattle.samples.specs.declared.MasterTurn.{MasterTurn}
 
 -- A happening at the FS-Master. `passes_anew`: a response has come that passes and is not old (R14a), t ms after the count that it answers was
--- first sent, which is the sample's start once the watchdog has been judged (R17).
-abbrev pub movedOf : Master → ℕ → Happening → Moved
-movedOf m w h =
+-- first sent, which is the sample's start once the watchdog has been looked at (R17).
+abbrev pub masterTurnOf : Master → ℕ → Happening → MasterTurn
+masterTurnOf m w h =
     let o = masters.stepOf m w h in
     record {
       master = o .master;
@@ -35,4 +35,4 @@ talliedBy a w anew t = cond (anew && leb t w) (totalledOf a t) (record { totals 
 
 -- the histogram of a port after a happening, its FS-Master before it being m
 abbrev pub stepped : Histogram → Master → ℕ → Happening → Histogram
-stepped k m w h = let moved = movedOf m w h in tallied k w (moved .«passes_anew») (moved .t)
+stepped k m w h = let turn = masterTurnOf m w h in tallied k w (turn .«passes_anew») (turn .t)

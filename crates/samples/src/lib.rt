@@ -10,7 +10,7 @@ use scl::Mark;
 
 // What a happening does at an FS-Master. `passes_anew`: a response has come that passes and is not old, t ms after the count that it answers was
 // first sent.
-pub struct Moved {
+pub struct MasterTurn {
     pub master: Master,
     pub mark: Mark,
     pub passes_anew: bool,
@@ -18,13 +18,13 @@ pub struct Moved {
 }
 
 // A happening at the FS-Master of a port whose watchdog time is w.
-pub fn move_master(m: Master, w: u16, happening: Happening) -> Moved
-    ensures { λ r. ⌜ r ≡ tally.movedOf m w happening ⌝ }
+pub fn turn_master(m: Master, w: u16, happening: Happening) -> MasterTurn
+    ensures { λ r. ⌜ r ≡ tally.masterTurnOf m w happening ⌝ }
 {
     let after = fs_master::step(m, w, happening);
     let master = after.master;
     let mark = after.mark;
-    Moved {
+    MasterTurn {
         master,
         mark,
         passes_anew: after.passed & !after.old,

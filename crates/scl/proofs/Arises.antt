@@ -12,7 +12,7 @@ use Rattle.scl.specs.declared.Check.the-variants as check
 use Rattle.scl.specs.Time.{elapsedOf, expiredOf}
 use Rattle.scl.specs.Counts.{countAfter, inverted}
 use Rattle.scl.specs.Happenings.{readingOf, checkOf, markOf, markNumberOf, checkNumberOf}
-use Rattle.scl.specs.Moved.{moved, movedHappening}
+use Rattle.scl.specs.Delayed.{delayed, delayedHappening}
 
 -- 01, "Numbers to try": of W 100 elapsed 100 passes and 101 has expired
 pub expired-above : (expiredOf 100 0 100 ≡ false) × (expiredOf 101 0 100 ≡ true)
@@ -34,7 +34,7 @@ pub each-check : (s p : Bool) → (checkOf false s p ≡ check.Signature) × ((c
 each-check s p = (refl, (refl, (refl, refl)))
 
 -- 01: without release safe values; with it this call's values where an SPDU led to a row, else an empty part
-pub each-mark : (rowTaken : Bool) → (markOf rowTaken false ≡ Safe) × ((markOf true true ≡ Fresh) × (markOf false true ≡ GoesOn))
+pub each-mark : (admitted : Bool) → (markOf admitted false ≡ Safe) × ((markOf true true ≡ Fresh) × (markOf false true ≡ GoesOn))
 each-mark true = (refl, (refl, refl))
 each-mark false = (refl, (refl, refl))
 
@@ -44,7 +44,7 @@ pub each-number :
     × (map checkNumberOf (check.None ∷ check.Signature ∷ check.Port ∷ check.Count ∷ []) ≡ 0 ∷ 1 ∷ 2 ∷ 3 ∷ [])
 each-number = (refl, refl)
 
--- each happening has its own reading, and all readings moved on by k ms moves that alone
+-- each happening has its own reading, and a delay of k ms changes that alone
 module _ (f : Response) (q : Request) («setSD_C» «ChFAck_C» : Bool) where
   abbrev each : ℕ → List Happening
   each at = happening.Response at f ∷ happening.Request at q ∷ happening.Clock at ∷ happening.Operator at «setSD_C» «ChFAck_C» ∷ []
@@ -52,6 +52,6 @@ module _ (f : Response) (q : Request) («setSD_C» «ChFAck_C» : Bool) where
   pub each-reading : (at : ℕ) → map readingOf (each at) ≡ at ∷ at ∷ at ∷ at ∷ []
   each-reading at = refl
 
-  pub each-moved : (k at : ℕ) → map (movedHappening k) (each at) ≡ each (moved k at)
-  unfolding movedHappening
-  each-moved k at = refl
+  pub each-delayed : (k at : ℕ) → map (delayedHappening k) (each at) ≡ each (delayed k at)
+  unfolding delayedHappening
+  each-delayed k at = refl

@@ -3,7 +3,7 @@ use Prim.Native.Nat.{ℕ, _+_, _-_, _%_, _^_, _<_, _≤_}
 use native.Mathlib.Omega.{arith}
 use mathlib.Core.Path.{_≡_, refl}
 use Rattle.scl.specs.Time.{elapsedOf}
-use Rattle.scl.specs.Moved.{moved}
+use Rattle.scl.specs.Delayed.{delayed}
 
 -- elapsed time is the one number below 2^32 that, added to the earlier reading, gives the later one modulo 2^32
 pub elapsed-is : (r now since : ℕ) → r < 2 ^ 32 → since < 2 ^ 32 → (r + since) % 2 ^ 32 ≡ now → r ≡ elapsedOf now since
@@ -24,8 +24,8 @@ pub backward : (now since : ℕ) → now < since → since < 2 ^ 32 → elapsedO
 unfolding elapsedOf
 backward now since earlier fits = omega arith
 
--- the wrap of the clock changes nothing: both readings moved by the same amount
-pub shifted : (now since k : ℕ) → now < 2 ^ 32 → since < 2 ^ 32 → elapsedOf (moved k now) (moved k since) ≡ elapsedOf now since
+-- the wrap of the clock changes nothing: both readings later by the same amount
+pub shifted : (now since k : ℕ) → now < 2 ^ 32 → since < 2 ^ 32 → elapsedOf (delayed k now) (delayed k since) ≡ elapsedOf now since
 unfolding elapsedOf
 shifted now since k now-fits since-fits = omega arith
 
@@ -42,5 +42,5 @@ forward-met = forward 4294967295 4294967290 (omega arith) (omega arith)
 pub backward-met : elapsedOf 1000 1001 ≡ 4294967295
 backward-met = backward 1000 1001 (omega arith) (omega arith)
 
-pub shifted-met : elapsedOf (moved 14 4294967286) (moved 14 4294967276) ≡ elapsedOf 4294967286 4294967276
+pub shifted-met : elapsedOf (delayed 14 4294967286) (delayed 14 4294967276) ≡ elapsedOf 4294967286 4294967276
 shifted-met = shifted 4294967286 4294967276 14 (omega arith) (omega arith)

@@ -9,7 +9,7 @@ use lib.Dec.{ltb}
 use borrow.Author.Tests.{ltb-true, ltb-false}
 use Rattle.scl.specs.Time.{elapsedOf}
 use Rattle.scl.specs.Happenings.{readingOf}
-use Rattle.scl.specs.Moved.{OnClock, none, more}
+use Rattle.scl.specs.Delayed.{OnClock, none, more}
 use Rattle.scl.specs.Readings.{lastReading}
 use Rattle.scl.specs.declared.Happening.{Happening}
 use Rattle.scl.proofs.Cases.{no, cond-case}
@@ -20,7 +20,7 @@ module _ {M : Type 0} (after : List Happening → M) (runs released : M → Bool
   abbrev acts : M → Happening → Bool
   acts m h = arrives m h || watches m h
 
-  -- where a call leaves values released, its SPDU was taken; or no row acted and they were released before
+  -- where a call leaves values released, its SPDU was admitted; or no row acted and they were released before
   abbrev Still : M → Happening → Type 0
   Still m h = (arrives m h ≡ true) ⊎ ((arrives m h ≡ false) × ((watches m h ≡ false) × (released m ≡ true)))
 

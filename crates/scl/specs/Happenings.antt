@@ -30,9 +30,9 @@ isFailure check.Count = true
 -- 01: safe values where the end does not release; else what this call's SPDU led to, or an empty part where no SPDU led to a row and earlier
 -- values stay released (R13a, R26)
 abbrev pub markOf : Bool → Bool → Mark
-markOf rowTaken released = cond (not released) Safe (cond rowTaken Fresh GoesOn)
+markOf admitted released = cond (not released) Safe (cond admitted Fresh GoesOn)
 
--- the numbers that stand for them outside
+-- their numbers outside
 abbrev pub markNumberOf : Mark → ℕ
 markNumberOf Fresh = 0
 markNumberOf GoesOn = 1

@@ -1,5 +1,5 @@
 pub mod Time
 pub mod Counts
 pub mod Happenings
-pub mod Moved
+pub mod Delayed
 pub mod Readings

@@ -119,13 +119,13 @@ pub fn is_failure(check: Check) -> bool
 }
 
 // What an end hands on, after a call in which an SPDU led to a row or not.
-pub fn mark_of(row_taken: bool, released: bool) -> Mark
-    ensures { λ r. ⌜ r ≡ markOf «row_taken» released ⌝ }
+pub fn mark_of(admitted: bool, released: bool) -> Mark
+    ensures { λ r. ⌜ r ≡ markOf admitted released ⌝ }
 {
     if !released {
         return Mark::Safe;
     }
-    if row_taken { Mark::Fresh } else { Mark::GoesOn }
+    if admitted { Mark::Fresh } else { Mark::GoesOn }
 }
 
 pub fn mark_number(mark: Mark) -> u8

@@ -17,43 +17,43 @@ use Rattle.scl.specs.declared.Happening.the-variants.{Response, Clock, Operator
 use Rattle.scl.specs.Time.{elapsedOf}
 use Rattle.fs_master.specs.Table38 as table38
 use Rattle.fs_master.specs.Calls as masters
-use Rattle.fs_master.specs.History.{masterAfter, judgedIn, passesBy, previousBy, lastTaken, isOldAfter}
+use Rattle.fs_master.specs.History.{masterAfter, watchedIn, passesBy, previousBy, lastAdmitted, isOldAfter}
 use Rattle.histogram.specs.Samples.{limit}
-use Rattle.samples.specs.Samples.{oldBy, sentSince, answered, timeOf, isSample, samples}
+use Rattle.samples.specs.Samples.{oldBy, sentSince, passedForCount, timeOf, isSample, samples}
 use Rattle.bench.specs.declared.Setting.{Setting}
 use Rattle.bench.specs.declared.Bench.{Bench}
 use Rattle.bench.specs.declared.Act.the-variants.{Refused, Accepted, Happens}
 use Rattle.bench.specs.Ports.{newBench, newPort, acceptedPort, portAt, withPort, stepOf, said, silent}
 use Rattle.bench.specs.Calls.{asked, askedByBlock, done, placed}
-use Rattle.bench.specs.History.{portOf, answerOf, after, history, never, since, goesOn, extended, sinceBlock}
+use Rattle.bench.specs.History.{addressed, answerOf, after, history, never, since, goesOn, extended, sinceBlock}
 use Rattle.bench.proofs.Arises.{uneven}
 use Rattle.session.specs.declared.Stop.the-variants.{Full, Bad, Cut, End}
 use Rattle.lines.specs.Text.{numeral, refusalLine, summaryLine, portLine}
 use Rattle.session.specs.Text.{lineOfPort, portLines}
-use Rattle.session.specs.Run.{Entry, entry, actBy, callsOf, start, ran, applied, lineOf, closing, printed, fedOf, more}
-use Rattle.session.specs.Blocks.{none, block}
-use Rattle.session.proofs.Blocks.{at-end, at-bad}
+use Rattle.session.specs.Run.{Entry, entry, actBy, callsOf, start, ran, applied, recordLine, closing, printed, fedOf, more}
+use Rattle.session.specs.Chunks.{none, chunk}
+use Rattle.session.proofs.Chunks.{at-end, at-bad}
 use Rattle.session.proofs.Shown.{line-shown, no-line}
 
 -- ---- A session
 
--- "The three octets 53 4C 03 alone print `r 1 code 13`, then `records 0 refused 1`": in two blocks
+-- "The three octets 53 4C 03 alone print `r 1 code 13`, then `records 0 refused 1`": in two chunks
 pub three-octets : printed (0x53 ∷ 0x4C ∷ 3 ∷ [])
     ≡ (114 ∷ 32 ∷ 49 ∷ 32 ∷ 99 ∷ 111 ∷ 100 ∷ 101 ∷ 32 ∷ 49 ∷ 51 ∷ 10 ∷ [])
     ++ (114 ∷ 101 ∷ 99 ∷ 111 ∷ 114 ∷ 100 ∷ 115 ∷ 32 ∷ 48 ∷ 32 ∷ 114 ∷ 101 ∷ 102 ∷ 117 ∷ 115 ∷ 101 ∷ 100 ∷ 32 ∷ 49 ∷ 10 ∷ [])
 unfolding closing numeral refusalLine summaryLine lineOfPort portLines newBench newPort portAt
-three-octets = at-end ((0x53 ∷ 0x4C ∷ []) ∷ (3 ∷ []) ∷ []) (block 1 (block 1 none)) refl
+three-octets = at-end ((0x53 ∷ 0x4C ∷ []) ∷ (3 ∷ []) ∷ []) (chunk 1 (chunk 1 none)) refl
 
 -- "A well-formed kind 1 record of 48 zero octets for port 1"
 pub zero-block : printed (0x53 ∷ 0x4C ∷ 1 ∷ 1 ∷ 0 ∷ 0 ∷ 0 ∷ 0 ∷ 48 ∷ replicate 48 0)
     ≡ (114 ∷ 32 ∷ 49 ∷ 32 ∷ 99 ∷ 111 ∷ 100 ∷ 101 ∷ 32 ∷ 50 ∷ 10 ∷ [])
     ++ (114 ∷ 101 ∷ 99 ∷ 111 ∷ 114 ∷ 100 ∷ 115 ∷ 32 ∷ 49 ∷ 32 ∷ 114 ∷ 101 ∷ 102 ∷ 117 ∷ 115 ∷ 101 ∷ 100 ∷ 32 ∷ 49 ∷ 10 ∷ [])
-unfolding printed closing numeral refusalLine summaryLine lineOfPort portLines newBench newPort portAt withPort applied lineOf answerOf after placed asked askedByBlock done silent
+unfolding printed closing numeral refusalLine summaryLine lineOfPort portLines newBench newPort portAt withPort applied recordLine answerOf after placed asked askedByBlock done silent
 zero-block = refl
 
 -- a bad record, whatever follows it
 pub bad-mark : (more : List ℕ) → printed (replicate 9 0 ++ more) ≡ closing start true
-bad-mark more = at-bad (replicate 9 0 ∷ []) more (block 1 none) refl
+bad-mark more = at-bad (replicate 9 0 ∷ []) more (chunk 1 none) refl
 
 abbrev clock : List ℕ
 clock = 0x53 ∷ 0x4C ∷ 3 ∷ 1 ∷ 0 ∷ 0 ∷ 0 ∷ 0 ∷ 0 ∷ []
@@ -66,7 +66,7 @@ pub each-stop :
     × (fedOf start clock 64 .stop ≡ End)
     × (fedOf start clock 64 .used ≡ 9)
     × (fedOf start clock 64 .written ≡ 11)
-unfolding fedOf lineOf numeral refusalLine newBench newPort portAt answerOf placed asked done silent
+unfolding fedOf recordLine numeral refusalLine newBench newPort portAt answerOf placed asked done silent
 each-stop = (refl, refl, refl, refl, refl, refl)
 
 -- A, B and N stop at 2^64 - 1 (R29)
@@ -113,7 +113,7 @@ record Since : Type 0 where
   sample : samples 1000 100 past ≡ 10 ∷ []
 
 since-met : Since
-unfolding sinceBlock extended goesOn portOf answerOf after history asked askedByBlock done placed portAt withPort newBench newPort silent signing.signature signing.octet signing.shiftInAll signing.shiftIn acceptedPort stepOf said samples isSample sentSince answered oldBy isOldAfter lastTaken previousBy timeOf masterAfter judgedIn passesBy elapsedOf table38.watchdogRow table38.isOld table38.isTaken table38.acted masters.judged
+unfolding sinceBlock extended goesOn addressed answerOf after history asked askedByBlock done placed portAt withPort newBench newPort silent signing.signature signing.octet signing.shiftInAll signing.shiftIn acceptedPort stepOf said samples isSample sentSince passedForCount oldBy isOldAfter lastAdmitted previousBy timeOf masterAfter watchedIn passesBy elapsedOf table38.watchdogRow table38.isOld table38.isAdmitted table38.acted masters.watched
 since-met = record { one = refl; none = refl; sample = refl }
 
 pub line-shown-met : lineOfPort 1 (portAt (ran start records .bench) 1) ≡ portLine 1 100 1 10 10

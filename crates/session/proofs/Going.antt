@@ -63,7 +63,7 @@ module _ {st₀ : State} {s out₀ : List ℕ} {room records : ℕ} {out : List 
       acted .ports ∙ ap (λ (q : Place). actPorts (portsOf settings lives bins) (q .index) clock a) here in
       record {
         eight = acted .eight;
-        within = omega (arith, whole-fits (drop at s) (f .stands), length-drop at s, f .start, f .next, g .within);
+        within = omega (arith, whole-fits (drop at s) (f .is-whole), length-drop at s, f .start, f .next, g .within);
         kept = n ∙ g .kept;
         fits = omega (arith, g .fits);
         some = omega (arith, g .some);

@@ -2,6 +2,6 @@ pub mod Seven
 pub mod Turn
 pub mod Link
 pub mod Going
-pub mod Blocks
+pub mod Chunks
 pub mod Shown
 pub mod Arises

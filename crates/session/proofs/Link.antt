@@ -36,9 +36,9 @@ use Rattle.session.specs.Run.{
   refusedAfter,
   applied,
   lineFor,
-  lineOf,
+  recordLine,
   ran,
-  told,
+  linesOf,
   stopOf,
   fedOf,
   fedText,
@@ -74,7 +74,7 @@ no-rest (suc n) s e = rw e
 pub record Link (st₀ : State) (s out₀ : List ℕ) (n : ℕ) (out : List ℕ) (st : State) (n′ at w : ℕ) : Type 0 where
   pub state : ran st₀ (recordsOf n s) ≡ ran st (recordsOf n′ (drop at s))
   pub rest : restOf n s ≡ restOf n′ (drop at s)
-  pub text : told st₀ (recordsOf n s) ≡ take w out ++ told st (recordsOf n′ (drop at s))
+  pub text : linesOf st₀ (recordsOf n s) ≡ take w out ++ linesOf st (recordsOf n′ (drop at s))
   pub behind : drop w out ≡ drop w out₀
 
 pub begin : (st₀ : State) (s out₀ : List ℕ) (n : ℕ) → Link st₀ s out₀ n out₀ st₀ n 0 0
@@ -82,7 +82,7 @@ begin st₀ s out₀ n = record { state = refl; rest = refl; text = refl; behind
 
 module _ {st₀ : State} {s out₀ : List ℕ} {n : ℕ} {out : List ℕ} {st : State} {n′ at w : ℕ} (l : Link st₀ s out₀ n out st n′ at w) where
   pub again : {out′ line : List ℕ} {st′ : State} {next w′ : ℕ} → form (drop at s) ≡ whole → 0 < n′ → next ≡ at + sizeOf (drop at s)
-      → st′ ≡ applied st (entryOf (drop at s)) → line ≡ lineOf st (entryOf (drop at s)) → Written out w line w′ out′
+      → st′ ≡ applied st (entryOf (drop at s)) → line ≡ recordLine st (entryOf (drop at s)) → Written out w line w′ out′
       → Link st₀ s out₀ n out′ st′ (n′ - 1) next w′
   again {out′} {line} {st′} {next} {w′} f h hn hs hl v =
       let x = drop at s in
@@ -91,13 +91,13 @@ module _ {st₀ : State} {s out₀ : List ℕ} {n : ℕ} {out : List ℕ} {st : 
       record {
         state = l .state ∙ rw (r, hs);
         rest = l .rest ∙ rw d (first-rest n′ x f h);
-        text = l .text ∙ rw (r, hs, v .front, hl) (sym (append-assoc (take w out) (lineOf st (entryOf x)) (told (applied st (entryOf x)) (recordsOf (n′ - 1) (drop next s)))));
+        text = l .text ∙ rw (r, hs, v .front, hl) (sym (append-assoc (take w out) (recordLine st (entryOf x)) (linesOf (applied st (entryOf x)) (recordsOf (n′ - 1) (drop next s)))));
         behind = v .behind ∙ rw (v .end) (agree w (length line) out out₀ (l .behind));
       }
 
   -- nothing more is read
   module _ (none : recordsOf n′ (drop at s) ≡ []) (left : restOf n′ (drop at s) ≡ drop at s) (a : at ≤ length s) (b : w ≤ length out) where
-    text-is : told st₀ (recordsOf n s) ≡ take w out
+    text-is : linesOf st₀ (recordsOf n s) ≡ take w out
     text-is = l .text ∙ rw none (append-nil (take w out))
 
     rest-is : restOf n s ≡ drop at s
@@ -109,10 +109,10 @@ module _ {st₀ : State} {s out₀ : List ℕ} {n : ℕ} {out : List ℕ} {st : 
     used-is : at ≡ length s - length (restOf n s)
     used-is = rw rest-is (omega (arith, length-drop at s))
 
-    written-is : w ≡ length (told st₀ (recordsOf n s))
+    written-is : w ≡ length (linesOf st₀ (recordsOf n s))
     written-is = rw text-is (sym (length-take-le w out b))
 
-    out-is : out ≡ fronted (told st₀ (recordsOf n s)) out₀
+    out-is : out ≡ fronted (linesOf st₀ (recordsOf n s)) out₀
     out-is = rw (← written-is, text-is, ← l .behind) (sym (take-append-drop w out))
 
 -- ---- What `feed` gives
@@ -177,8 +177,8 @@ module _ (b : Bench) (records refused : ℕ) (e : Entry) (a : Act)
       ap (λ (z : Bench). stateOf z (more records) (refusedAfter refused (answerIn a))) bench-is
       ∙ ap (λ (x : Answer). stateOf (after b (callOf b e)) (more records) (refusedAfter refused x)) answer-is
 
-  line-after : lineFor (more records) (answerIn a) ≡ lineOf st e
-  unfolding lineOf
+  line-after : lineFor (more records) (answerIn a) ≡ recordLine st e
+  unfolding recordLine
   line-after = ap (λ (x : Answer). lineFor (more records) x) answer-is
 
 -- the record that stands at a position
@@ -204,7 +204,7 @@ module _ (st₀ : State) (s out₀ : List ℕ) (n : ℕ) (out : List ℕ) (b : B
       ha
       ∙ ap (λ (sign : ℕ → List ℕ → ℕ). actBy sign (outside 1 8 port) setting e) hs
       ∙ ap (λ (s : Setting). actBy byBits (outside 1 8 port) s e) hp in
-      again l (f .stands) h (f .next)
+      again l (f .is-whole) h (f .next)
       (ap (λ (m : ℕ). stateOf (later b records refused e a ha′) m (refusedAfter refused (answerIn a))) hm ∙ state-after b records refused e a ha′ ∙ ap (λ (e : Entry). applied (stateOf b records refused) e) is)
-      (ap (λ (m : ℕ). lineFor m (answerIn a)) hm ∙ line-after b records refused e a ha′ ∙ ap (λ (e : Entry). lineOf (stateOf b records refused) e) is)
+      (ap (λ (m : ℕ). lineFor m (answerIn a)) hm ∙ line-after b records refused e a ha′ ∙ ap (λ (e : Entry). recordLine (stateOf b records refused) e) is)
       v

@@ -17,7 +17,7 @@ use Rattle.bench.specs.declared.Port.{Port}
 use Rattle.bench.specs.declared.Bench.{Bench}
 use Rattle.bench.specs.Ports.{portAt}
 use Rattle.bench.specs.Calls.{safeInHold, safeOutHold}
-use Rattle.bench.specs.History.{Call, SetParameters, ReceiveResponse, Clock, Operator, portOf, rulesOf, answerOf}
+use Rattle.bench.specs.History.{Call, SetParameters, ReceiveResponse, Clock, Operator, addressed, rulesOf, answerOf}
 use Rattle.bench.proofs.Answers.{answer-is}
 use Rattle.scl.proofs.Cases.{and-left, and-right}
 use Rattle.session.specs.Run.{Entry, safeIn, safeOut, setSDIn, ackIn, callOf}
@@ -72,8 +72,8 @@ module _ (b : Bench) (e : Entry) where
       (cond k₃ (Clock (e .port) (e .at) (safeIn (p .setting .params)) (safeOut (p .setting .params)))
       (Operator (e .port) (e .at) (setSDIn (e .octets)) (ackIn (e .octets)) (safeIn (p .setting .params)))))
 
-  kept : (k₁ k₂ k₃ : Bool) → noSeven (rulesOf (portAt b (portOf (call k₁ k₂ k₃))) (call k₁ k₂ k₃)) ≡ true
-  unfolding rulesOf portOf
+  kept : (k₁ k₂ k₃ : Bool) → noSeven (rulesOf (portAt b (addressed (call k₁ k₂ k₃))) (call k₁ k₂ k₃)) ≡ true
+  unfolding rulesOf addressed
   kept true k₂ k₃ = refl
   kept false true k₃ = rw (safe-in (p .setting .params))
   kept false false true = rw (safe-in (p .setting .params), safe-out (p .setting .params))
@@ -82,4 +82,4 @@ module _ (b : Bench) (e : Entry) where
   pub never-seven : isSeven (answerOf b (callOf b e)) ≡ false
   never-seven =
       let c = callOf b e in
-      ap isSeven (answer-is b c) ∙ never (rulesOf (portAt b (portOf c)) c) Taken refl (kept (eqb (e .kind) 1) (eqb (e .kind) 2) (eqb (e .kind) 3))
+      ap isSeven (answer-is b c) ∙ never (rulesOf (portAt b (addressed c)) c) Taken refl (kept (eqb (e .kind) 1) (eqb (e .kind) 2) (eqb (e .kind) 3))

@@ -1,3 +1,3 @@
 pub mod Text
 pub mod Run
-pub mod Blocks
+pub mod Chunks

@@ -59,14 +59,14 @@ restOf (suc n) s = cond (isWhole (form s)) (restOf n (drop (sizeOf s) s)) s
 -- ---- Calls
 
 -- "Outgoing values are zeros", and so are the safe values lent: as many as an SPDU of that length has process octets. So 7 never arises.
-abbrev pub zeros : Params → ℕ → List ℕ
-zeros p n = replicate (processOctets (p .«FSP_ProtMode») n) 0
+abbrev pub zeroValues : Params → ℕ → List ℕ
+zeroValues p n = replicate (processOctets (p .«FSP_ProtMode») n) 0
 
 abbrev pub safeIn : Params → List ℕ
-safeIn p = zeros p (p .SPDUInLength)
+safeIn p = zeroValues p (p .SPDUInLength)
 
 abbrev pub safeOut : Params → List ℕ
-safeOut p = zeros p (p .SPDUOutLength)
+safeOut p = zeroValues p (p .SPDUOutLength)
 
 -- "bit 0 setSD_C, bit 1 ChFAck_C"
 abbrev pub setSDIn : List ℕ → Bool
@@ -130,16 +130,16 @@ applied st e = answered st (after (st .bench) (callOf (st .bench) e)) (answerOf 
 abbrev pub lineFor : ℕ → Answer → List ℕ
 lineFor n a = cond (isTaken a) [] (refusalLine n (numberOf a))
 
-unfoldable pub lineOf : State → Entry → List ℕ
-lineOf st e = lineFor (more (st .records)) (answerOf (st .bench) (callOf (st .bench) e))
+unfoldable pub recordLine : State → Entry → List ℕ
+recordLine st e = lineFor (more (st .records)) (answerOf (st .bench) (callOf (st .bench) e))
 
 abbrev pub ran : State → List Entry → State
 ran st [] = st
 ran st (e ∷ rs) = ran (applied st e) rs
 
-abbrev pub told : State → List Entry → List ℕ
-told st [] = []
-told st (e ∷ rs) = lineOf st e ++ told (applied st e) rs
+abbrev pub linesOf : State → List Entry → List ℕ
+linesOf st [] = []
+linesOf st (e ∷ rs) = recordLine st e ++ linesOf (applied st e) rs
 
 -- "A 13 ends reading": its line, where some octets are left
 abbrev pub thirteenLine : Bool → ℕ → List ℕ
@@ -156,9 +156,9 @@ closing st some =
 unfoldable pub printed : List ℕ → List ℕ
 printed s =
     let rs = recordsOf (length s) s in
-    told start rs ++ closing (ran start rs) (not (eqb (length (restOf (length s) s)) 0))
+    linesOf start rs ++ closing (ran start rs) (not (eqb (length (restOf (length s) s)) 0))
 
--- ---- In blocks
+-- ---- In chunks
 
 -- why reading stopped, by what stands there: a whole record, for whose line there is no room; a bad one; one cut short; nothing
 abbrev pub stopOf : Form → Stop
@@ -167,14 +167,14 @@ stopOf bad = Bad
 stopOf part = Cut
 stopOf nothing = End
 
--- a block s, with a buffer of `room` octets lent for the lines: as many records as it has lines' room for
+-- a chunk s, with a buffer of `room` octets lent for the lines: as many records as it has lines' room for
 unfoldable pub fedOf : State → List ℕ → ℕ → Fed
 fedOf st s room =
     let n = room / lineRoom in
     record {
       state = ran st (recordsOf n s);
       used = length s - length (restOf n s);
-      written = length (told st (recordsOf n s));
+      written = length (linesOf st (recordsOf n s));
       stop = stopOf (form (restOf n s));
     }
 
@@ -183,7 +183,7 @@ abbrev pub fronted : List ℕ → List ℕ → List ℕ
 fronted text out = text ++ drop (length text) out
 
 unfoldable pub fedText : State → List ℕ → List ℕ → List ℕ
-fedText st s out = fronted (told st (recordsOf (length out / lineRoom) s)) out
+fedText st s out = fronted (linesOf st (recordsOf (length out / lineRoom) s)) out
 
 -- what `finish` writes into a buffer of `room` octets
 unfoldable pub finishText : State → Bool → ℕ → List ℕ

@@ -1,6 +1,6 @@
 // A session: records of octets, each a call on the bench, and the lines of text that it comes to (document 01, "The session program").
 //
-// A program starts with `start`, hands on each block of octets to `feed` together with what the last call left of the block before, prints
+// A program starts with `start`, hands on each chunk of octets to `feed` together with what the last call left of the chunk before, prints
 // what it wrote, and at the end of the input, or where a record is bad, prints what `finish` writes.
 mod calling;
 mod run;
@@ -25,13 +25,13 @@ pub enum Stop {
     Full,
     // What stands there is no record: a 13.
     Bad,
-    // A record begins there and is not whole: it goes on in the next block, or it is a 13.
+    // A record begins there and is not whole: it goes on in the next chunk, or it is a 13.
     Cut,
     // All octets are used up.
     End,
 }
 
-// After a block: how many of its octets are used up, and how many were written.
+// After a chunk: how many of its octets are used up, and how many were written.
 pub struct Fed {
     pub state: State,
     pub used: usize,

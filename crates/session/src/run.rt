@@ -1,4 +1,4 @@
-// A run over blocks of octets.
+// A run over chunks of octets.
 ghost use mathlib.Core.Path.{_≡_};
 ghost use mathlib.Core.Bool.{true, cond};
 ghost use Prim.Native.Nat.{_+_, _≤_, _<_};
@@ -116,7 +116,7 @@ fn raise(bins: &mut [[u32; BIN_COUNT]; PORT_COUNT], k: usize, counts: bool, i: u
 }
 
 // `feed`, of a bench in columns.
-fn take_records(
+fn use_records(
     settings: [Setting; PORT_COUNT],
     lives: [Live; PORT_COUNT],
     bins: [[u32; BIN_COUNT]; PORT_COUNT],
@@ -220,7 +220,7 @@ pub fn feed(st: State, s: &[u8], out: &mut [u8]) -> Fed
     ensures { λ r. ⌜ Counts (r .written) (now (out .exit)) ⌝ }
 {
     let bench = bench_of(st);
-    take_records(
+    use_records(
         bench::settings_of(bench),
         bench::lives_of(bench),
         bench::all_bins_of(bench),

@@ -9,7 +9,7 @@ use native.Mathlib.Omega.{arith}
 use lib.Bits.{bitXor, xor-lt}
 use lib.ListN.{length, length-append}
 use Rattle.gf2.specs.Polynomial.{_⊕_, Multiple}
-use Rattle.gf2.specs.Register.{register, SameLengths, Passes}
+use Rattle.gf2.specs.Register.{register, SameLengths, Undetected}
 use Rattle.gf2.specs.Bits.{bits, octetBits}
 use Rattle.gf2.proofs.Sum.{sum-append}
 use Rattle.gf2.proofs.Bits.{bits-length, bits-xor, bits-injective}
@@ -40,7 +40,7 @@ module _ (w g seed : ℕ) (xs es : List ℕ) (c : ℕ) (hg : g < 2 ^ w) (hs : se
     in-register = bits-length w c ∙ sym (bits-length w g);
   }
 
-  as-bits : arrives ↔ Passes (bits w g) (bits w seed) (octetBits xs) (octetBits es) (bits w c)
+  as-bits : arrives ↔ Undetected (bits w g) (bits w seed) (octetBits xs) (octetBits es) (bits w c)
   as-bits = (λ p. sym left ∙ ap (bits w) p ∙ right, λ p. bits-injective w fits-left fits-right (left ∙ p ∙ sym right))
     where
       left : bits w (signature w g seed (flipped xs es)) ≡ register (bits w g) (bits w seed) (octetBits xs ⊕ octetBits es)

@@ -13,14 +13,14 @@ use lib.Seq.{drop-cons, take-at, drop-at}
 use Rattle.gf2.specs.Polynomial.{_⊕_, zeros}
 use Rattle.gf2.specs.Register.{register}
 use Rattle.gf2.specs.Bits.{bits}
-use Rattle.gf2.proofs.Bits.{bits-length, bits-xor, bits-zero, bits-mod, bits-parts, bits-moved, bits-injective}
+use Rattle.gf2.proofs.Bits.{bits-length, bits-xor, bits-zero, bits-mod, bits-parts, bits-shifted, bits-injective}
 use Rattle.gf2.proofs.Table.{by-table}
 use Rattle.signature.specs.Signature.{shiftInAll, octet, signature}
 use Rattle.signature.specs.Lookup.{division, Table, lookUp, byTable}
 use Rattle.signature.proofs.Bridge.{shiftInAll-bits, shiftInAll-lt, octet-lt}
 
 module _ (w g n k : ℕ) (wide : w ≡ n + k) (hg : g < 2 ^ w) where
-  -- the register's bits: those that the step looks at, and the rest, which moves left
+  -- the register's bits: those that the step looks at, and the rest, which shifts left
   module _ (r : ℕ) where
     parts : bits w r ≡ bits n (r / 2 ^ k) ++ bits k r
     parts = ap (λ (m : ℕ). bits m r) wide ∙ bits-parts n k r
@@ -31,8 +31,8 @@ module _ (w g n k : ℕ) (wide : w ≡ n + k) (hg : g < 2 ^ w) where
     rest : drop n (bits w r) ≡ bits k r
     rest = ap (drop n) parts ∙ drop-at (bits n (r / 2 ^ k)) (bits k r) n (bits-length n (r / 2 ^ k))
 
-    moved : bits w (r * 2 ^ n % 2 ^ w) ≡ bits k r ++ zeros n
-    moved = rw zero-add at (bits-mod 0 w (r * 2 ^ n)) ∙ ap (λ (m : ℕ). bits m (r * 2 ^ n)) (wide ∙ add-comm n k) ∙ bits-moved k n r
+    shifted : bits w (r * 2 ^ n % 2 ^ w) ≡ bits k r ++ zeros n
+    shifted = rw zero-add at (bits-mod 0 w (r * 2 ^ n)) ∙ ap (λ (m : ℕ). bits m (r * 2 ^ n)) (wide ∙ add-comm n k) ∙ bits-shifted k n r
 
   index : (a x : ℕ) → bits n (bitXor a x % 2 ^ n) ≡ bits n a ⊕ bits n x
   index a x = rw zero-add at (bits-mod 0 n (bitXor a x)) ∙ bits-xor n a x
@@ -58,7 +58,7 @@ module _ (w g n k : ℕ) (wide : w ≡ n + k) (hg : g < 2 ^ w) where
         rest r,
         index (r / 2 ^ k) x,
         division-bits i,
-        moved r,
+        shifted r,
         bits-xor w (division w g n i) (r * 2 ^ n % 2 ^ w),
       )
 

@@ -16,7 +16,7 @@ pub record Table (w g n : ℕ) (table : List ℕ) : Type 0 where
   pub size : length table ≡ 2 ^ n
   pub entry : (i : ℕ) → i < 2 ^ n → getD table i 0 ≡ division w g n i
 
--- Figures D.4 and D.6, over any table: the register's first n bits and the data's pick the entry, and the rest of the register moves left
+-- Figures D.4 and D.6, over any table: the register's first n bits and the data's pick the entry, and the rest of the register shifts left
 abbrev pub lookUp : ℕ → ℕ → List ℕ → ℕ → ℕ → ℕ
 lookUp w n table r x = bitXor (getD table (bitXor (r / 2 ^ (w - n)) x % 2 ^ n) 0) (r * 2 ^ n % 2 ^ w)
 

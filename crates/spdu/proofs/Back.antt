@@ -12,7 +12,7 @@ use Rattle.ranges.specs.Fields.{safetyOctets}
 use Rattle.block.specs.Octets.{unsigned16, unsigned32}
 use Rattle.block.specs.declared.Params.{Params}
 use Rattle.spdu.specs.Signature.{byBits, replaced}
-use Rattle.spdu.specs.Places.{processOctets, portOf, contentsOf, carriedOf, signatureHolds, allZero}
+use Rattle.spdu.specs.Places.{processOctets, portNumberOf, contentsOf, carriedOf, signatureHolds, allZero}
 use Rattle.spdu.specs.Fields.{countIn, bit2, bit1, bit0, responseBy, requestBy}
 use Rattle.spdu.specs.Built.{controlOctet, statusOctet, spduWith}
 use Rattle.spdu.specs.RoundTrip.{requestBack, responseBack, zerosBack}
@@ -61,8 +61,8 @@ module _ (p : Params) (process : List ℕ) where
       by true e = sym (valid-passes mode process (p .«FSP_Port») control) ∙ zeros-refused byBits mode (sent control) e
       by false e = refl
 
-  port-back : (control : ℕ) → eqb (portOf mode (sent control)) (p .«FSP_Port») ≡ true
-  port-back control = eq-eqb (portOf mode (sent control)) (p .«FSP_Port») (read-port byBits mode process (p .«FSP_Port») control)
+  port-back : (control : ℕ) → eqb (portNumberOf mode (sent control)) (p .«FSP_Port») ≡ true
+  port-back control = eq-eqb (portNumberOf mode (sent control)) (p .«FSP_Port») (read-port byBits mode process (p .«FSP_Port») control)
 
   pub request-back : (mCount : ℕ) (setSD chFAckReq : Bool) → length process + safetyOctets mode ≡ p .SPDUOutLength
       → requestBy byBits p (sent (controlOctet mCount setSD chFAckReq)) ≡ requestBack mCount setSD chFAckReq

@@ -1,4 +1,4 @@
--- What is read of an SPDU that was built is what it was built from, by any method of signing (R2, R5); and the control and status octets taken
+-- What is read of an SPDU that was built is what it was built from, by any method of signing (R2, R5); and the control and status octets read
 -- apart (000 Tables 31 and 32). Assumes nothing.
 use mathlib.Core.Path.{_≡_, refl, sym, ap, ap₂, _∙_}
 use mathlib.Core.Bool.{Bool, true, false}
@@ -14,7 +14,7 @@ use lib.Seq.{take-at, getD-at, getD-append-add, getD-drop, length-take-le, take-
 use Rattle.ranges.specs.Fields.{safetyOctets}
 use Rattle.block.specs.Octets.{Octets}
 use Rattle.spdu.specs.Signature.{widthOf, replaced}
-use Rattle.spdu.specs.Places.{processOctets, processOf, portOf, controlOf, contentsOf, carriedAt, carriedOf, signatureHolds}
+use Rattle.spdu.specs.Places.{processOctets, processOf, portNumberOf, controlOf, contentsOf, carriedAt, carriedOf, signatureHolds}
 use Rattle.spdu.specs.Fields.{countIn, bit2, bit1, bit0}
 use Rattle.spdu.specs.Built.{bitIn, controlOctet, statusOctet, signatureOctets, contentsWith, spduWith}
 use Rattle.spdu.proofs.Numbers.{number, number-injective}
@@ -54,7 +54,7 @@ module _ (sign : ℕ → List ℕ → ℕ) (mode : ℕ) (process : List ℕ) (po
   pub read-process : processOf mode built ≡ process
   read-process = ap₂ take behind regrouped ∙ take-at process (port ∷ control ∷ signatureOctets mode value) (length process) refl
 
-  pub read-port : portOf mode built ≡ port
+  pub read-port : portNumberOf mode built ≡ port
   read-port =
       ap₂ (λ (s : List ℕ) (n : ℕ). getD s n 0) regrouped behind
       ∙ getD-at process port (control ∷ signatureOctets mode value) 0 (length process) refl
@@ -95,7 +95,7 @@ module _ (mode : ℕ) (s : List ℕ) (long : safetyOctets mode ≤ length s) whe
       rw take-append-drop at (carried-of mode (contentsOf mode s) (drop seam s) (omega (arith, contents-long)) tail-long)
 
   -- contents are process octets, port number, and control or status octet
-  contents-parts : contentsOf mode s ≡ contentsWith (processOf mode s) (portOf mode s) (controlOf mode s)
+  contents-parts : contentsOf mode s ≡ contentsWith (processOf mode s) (portNumberOf mode s) (controlOf mode s)
   contents-parts =
       let n = processOctets mode (length s) in
       let one : n < length s = omega (arith, signing mode .safety) in
@@ -120,7 +120,7 @@ determined sign mode s t hs ht long same contents ps pt =
 
 -- so are two of the same length with the same process octets, port number, and control or status octet
 pub determined-by-fields : (sign : ℕ → List ℕ → ℕ) (mode : ℕ) (s t : List ℕ) → Octets s → Octets t → safetyOctets mode ≤ length s
-    → length s ≡ length t → processOf mode s ≡ processOf mode t → portOf mode s ≡ portOf mode t → controlOf mode s ≡ controlOf mode t
+    → length s ≡ length t → processOf mode s ≡ processOf mode t → portNumberOf mode s ≡ portNumberOf mode t → controlOf mode s ≡ controlOf mode t
     → signatureHolds sign mode s ≡ true → signatureHolds sign mode t ≡ true → s ≡ t
 determined-by-fields sign mode s t hs ht long same process port control =
     determined sign mode s t hs ht long same

@@ -1,4 +1,4 @@
--- 000 Tables 31 and 32: the control and the status octet taken apart, and what is read of a received SPDU. Reserved bits are not looked at (R8).
+-- 000 Tables 31 and 32: the control and the status octet read, and what is read of a received SPDU. Reserved bits are not looked at (R8).
 -- Assumes nothing.
 use Prim.Native.Nat.{ℕ, _/_, _%_}
 use mathlib.Core.Bool.{Bool, false, cond}
@@ -9,7 +9,7 @@ use Rattle.block.specs.declared.Params.{Params}
 use Rattle.scl.specs.declared.Request.{Request}
 use Rattle.scl.specs.declared.Response.{Response}
 use Rattle.spdu.specs.declared.read.Trailer.{Trailer}
-use Rattle.spdu.specs.Places.{portOf, controlOf, signatureHolds, allZero}
+use Rattle.spdu.specs.Places.{portNumberOf, controlOf, signatureHolds, allZero}
 
 -- bits 5 to 7: MCount, or DCount_i
 abbrev pub countIn : ℕ → ℕ
@@ -27,7 +27,7 @@ bit0 x = eqb (x % 2) 1
 
 -- what stands behind the process octets
 abbrev pub trailerOf : (ℕ → List ℕ → ℕ) → ℕ → List ℕ → Trailer
-trailerOf sign mode s = record { port = portOf mode s; control = controlOf mode s; «signature_holds» = signatureHolds sign mode s }
+trailerOf sign mode s = record { port = portNumberOf mode s; control = controlOf mode s; «signature_holds» = signatureHolds sign mode s }
 
 -- what the FS-Master reads (Table 32), whatever the length
 abbrev pub responseFields : (ℕ → List ℕ → ℕ) → Params → List ℕ → Response
@@ -39,7 +39,7 @@ responseFields sign p s =
       SDset = bit2 status;
       DCommErr = bit1 status;
       DTimeout = bit0 status;
-      «port_holds» = eqb (portOf mode s) (p .«FSP_Port»);
+      «port_holds» = eqb (portNumberOf mode s) (p .«FSP_Port»);
       «signature_holds» = signatureHolds sign mode s;
       «all_zero» = allZero s;
     }
@@ -67,7 +67,7 @@ requestFields sign p s =
       MCount = countIn control;
       setSD = bit1 control;
       ChFAckReq = bit0 control;
-      «port_holds» = eqb (portOf mode s) (p .«FSP_Port»);
+      «port_holds» = eqb (portNumberOf mode s) (p .«FSP_Port»);
       «signature_holds» = signatureHolds sign mode s;
       «all_zero» = allZero s;
     }

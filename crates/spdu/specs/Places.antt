@@ -16,8 +16,8 @@ processOctets mode n = n - safetyOctets mode
 abbrev pub processOf : ℕ → List ℕ → List ℕ
 processOf mode s = take (processOctets mode (length s)) s
 
-abbrev pub portOf : ℕ → List ℕ → ℕ
-portOf mode s = getD s (processOctets mode (length s)) 0
+abbrev pub portNumberOf : ℕ → List ℕ → ℕ
+portNumberOf mode s = getD s (processOctets mode (length s)) 0
 
 -- the control octet of a request, or the status octet of a response
 abbrev pub controlOf : ℕ → List ℕ → ℕ

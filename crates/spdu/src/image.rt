@@ -112,7 +112,7 @@ pub fn handed_on<'a>(mark: Mark, mode: u8, spdu: &'a [u8], safe: &'a [u8]) -> &'
     }
 }
 
-// The length is judged first, so that of safe values of a wrong length no octet is read.
+// The length is compared first, so that of safe values of a wrong length no octet is read.
 pub fn safe_values_hold(mode: u8, n: usize, safe: &[u8]) -> bool
     ensures { λ r. ⌜ r ≡ image.safeValuesHold mode n (now (safe .entry)) ⌝ }
 {

@@ -22,28 +22,28 @@ loop-holds c = (
   begin _ _ _ (c .after .ensures ∙ ap (λ (st : State). record { state = st; left = 0; going = On }) (c .before .start .ensures)) (omega arith),
 )
 
-read-block-requires : tie.Need-read-block-requires Inv-loop μ-loop
-read-block-requires c κs =
+read-chunk-requires : tie.Need-read-chunk-requires Inv-loop μ-loop
+read-chunk-requires c κs =
     let t = c .before .before .before .loop .inv .2 in
     let pre = c .before .before .before .before .before .before .before .before .pre in
     (omega (arith, short (t .after) (t .going), pre .0), omega (arith, pre .1))
 
 loop-again : tie.Need-loop-again Inv-loop μ-loop
 loop-again c =
-    let b = c .before .before .before .before .before .before .read-block in
+    let b = c .before .before .before .before .before .before .read-chunk in
     let l = c .before .before .before .before .before .before .before .before .before .before .loop in
     (search needs, search needs, again (l .inv .2) (b .ensures) _ (omega arith) (c .enum-told .given .1))
 
 returns : tie.Need-returns Inv-loop μ-loop
 returns c =
-    let b = c .before .before .before .before .before .before .before .before .before .before .read-block in
+    let b = c .before .before .before .before .before .before .before .before .before .before .read-chunk in
     let l = c .before .before .before .before .before .before .before .before .before .before .before .before .before .before .loop in
     let pre = c .before .before .before .before .before .before .before .before .before .before .before .before .before .before .before .before .before .before .before .pre in
     ended (l .inv .2) (b .ensures) (c .before .before .before .before .enum-told2 .given .1) (b .last .1 .1 .0) _ (omega (arith, pre .1)) (c .before .before .finish .ensures)
 
 returns-2 : tie.Need-returns-2 Inv-loop μ-loop
 returns-2 c =
-    let b = c .before .before .before .before .before .before .read-block in
+    let b = c .before .before .before .before .before .before .read-chunk in
     let l = c .before .before .before .before .before .before .before .before .before .before .loop in
     failed (l .inv .2) (b .ensures) (c .enum-told3 .given .1) _
 
@@ -60,7 +60,7 @@ run-spec =
     (λ c κs. search needs)
     loop-holds
     (λ c. search needs)
-    read-block-requires
+    read-chunk-requires
     (λ c. search needs)
     (λ c. search needs)
     loop-again

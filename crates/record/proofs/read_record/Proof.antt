@@ -6,7 +6,7 @@ use mathlib.Core.List.{List}
 use lib.ListN.{length, drop, drop-of-length-le, length-drop}
 use lib.Seq.{take-all}
 use denote.Ref.{now}
-use Rattle.record.specs.Format.{place, form}
+use Rattle.record.specs.Format.{recordBy, form}
 use borrow.Author.Needs.{needs}
 use Rattle.record.proofs.read_record.Statement.{statement}
 use Rattle.record.proofs.read_record.Tie as tie
@@ -19,7 +19,7 @@ returns-2 c =
     let a = c .before .before .before .before .args in
     let s = now (a .s) in
     c .read-first .ensures
-    ∙ ap (λ (l : List ℕ). place (form l) l (a .at)) (take-all (length s - a .at) (drop (a .at) s) (omega (arith, length-drop (a .at) s)))
+    ∙ ap (λ (l : List ℕ). recordBy (form l) l (a .at)) (take-all (length s - a .at) (drop (a .at) s) (omega (arith, length-drop (a .at) s)))
 
 pub read-record-spec : {M : Type 1} → statement M
 read-record-spec =

@@ -6,7 +6,7 @@ use Rattle.bench.proofs.turns.turn.Tie as tie
 
 returns : tie.Need-returns
 unfolding turnOf
-returns c = simp (c .bin .ensures, c .before .before .before .before .tallied .ensures, c .before .before .before .before .before .step .ensures, c .before .before .before .before .before .before .move-master .ensures)
+returns c = simp (c .bin .ensures, c .before .before .before .before .tallied .ensures, c .before .before .before .before .before .step .ensures, c .before .before .before .before .before .before .turn-master .ensures)
 
 pub turn-spec : {M : Type 1} → statement M
 turn-spec =

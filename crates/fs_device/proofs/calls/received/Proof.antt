@@ -5,11 +5,11 @@ use Rattle.fs_device.proofs.calls.received.Tie as tie
 
 returns : tie.Need-returns
 unfolding received
-returns c = simp (simp (c .before .before .before .is-taken .ensures) at (c .before .before .if1 .taken), c .arrived .ensures, c .before .checked .ensures)
+returns c = simp (simp (c .before .before .before .is-admitted .ensures) at (c .before .before .if1 .taken), c .arrived .ensures, c .before .checked .ensures)
 
 returns-2 : tie.Need-returns-2
 unfolding received
-returns-2 c = simp (simp (c .before .before .is-taken .ensures) at (c .before .if1 .left), c .quiet .ensures, c .before .before .before .is-old .ensures)
+returns-2 c = simp (simp (c .before .before .is-admitted .ensures) at (c .before .if1 .left), c .quiet .ensures, c .before .before .before .is-old .ensures)
 
 pub received-spec : {M : Type 1} → statement M
 received-spec =

@@ -1,10 +1,10 @@
-use Rattle.fs_device.specs.Calls.{watched, stepOf}
+use Rattle.fs_device.specs.Calls.{clocked, stepOf}
 use borrow.Author.Needs.{needs}
 use Rattle.fs_device.proofs.calls.step.Statement.{statement}
 use Rattle.fs_device.proofs.calls.step.Tie as tie
 
 returns : tie.Need-returns
-unfolding stepOf watched
+unfolding stepOf clocked
 returns c =
     simp
     (c .quiet .ensures, c .before .before .before .before .watched .ensures .0, c .before .before .before .before .watched .ensures .1, c .before .before .before .before .before .reading .ensures, c .before .enum-told .given .1)
@@ -16,13 +16,13 @@ returns-2 c =
     (c .received .ensures, c .before .before .before .before .before .watched .ensures .0, c .before .before .before .before .before .watched .ensures .1, c .before .before .before .before .before .before .reading .ensures, c .before .before .happening .given .1)
 
 returns-3 : tie.Need-returns-3
-unfolding stepOf watched
+unfolding stepOf clocked
 returns-3 c =
     simp
     (c .quiet2 .ensures, c .before .before .before .before .watched .ensures .0, c .before .before .before .before .watched .ensures .1, c .before .before .before .before .before .reading .ensures, c .before .enum-told2 .given .1)
 
 returns-4 : tie.Need-returns-4
-unfolding stepOf watched
+unfolding stepOf clocked
 returns-4 c =
     simp
     (c .quiet3 .ensures, c .before .before .before .before .watched .ensures .0, c .before .before .before .before .watched .ensures .1, c .before .before .before .before .before .reading .ensures, c .before .enum-told3 .given .1)

@@ -1,4 +1,4 @@
-use Rattle.fs_master.specs.Calls.{watched, operated, stepOf}
+use Rattle.fs_master.specs.Calls.{clocked, operated, stepOf}
 use borrow.Author.Needs.{needs}
 use Rattle.fs_master.proofs.calls.step.Statement.{statement}
 use Rattle.fs_master.proofs.calls.step.Tie as tie
@@ -10,13 +10,13 @@ returns c =
     (c .received .ensures, c .before .before .before .before .before .watched .ensures .0, c .before .before .before .before .before .watched .ensures .1, c .before .before .before .before .before .before .reading .ensures, c .before .before .happening .given .1)
 
 returns-2 : tie.Need-returns-2
-unfolding stepOf watched
+unfolding stepOf clocked
 returns-2 c =
     simp
     (c .quiet .ensures, c .before .before .before .before .watched .ensures .0, c .before .before .before .before .watched .ensures .1, c .before .before .before .before .before .reading .ensures, c .before .enum-told .given .1)
 
 returns-3 : tie.Need-returns-3
-unfolding stepOf watched
+unfolding stepOf clocked
 returns-3 c =
     simp
     (c .quiet2 .ensures, c .before .before .before .before .watched .ensures .0, c .before .before .before .before .watched .ensures .1, c .before .before .before .before .before .reading .ensures, c .before .enum-told2 .given .1)

@@ -5,7 +5,7 @@ use Rattle.fs_master.proofs.table38.t12.Tie as tie
 
 returns : tie.Need-returns
 unfolding t12
-returns c = simp (c .sample-from .ensures, c .before .count-after2 .ensures, c .before .before .count-after .ensures)
+returns c = simp (c .start-from .ensures, c .before .count-after2 .ensures, c .before .before .count-after .ensures)
 
 pub t12-spec : {M : Type 1} → statement M
 t12-spec =

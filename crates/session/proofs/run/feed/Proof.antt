@@ -25,7 +25,7 @@ returns c =
     (packed-same (settings .settings-of .ensures) (lives .lives-of .ensures) (bins .all-bins-of .ensures)
     ∙ ap (λ (p : List Port). record { ports = p }) (columns-of (b .result .ports))
     ∙ b .ensures) in
-    let r = c .before .before .take-records .ensures in
+    let r = c .before .before .use-records .ensures in
     (r .0 ∙ ap (λ (z : State). fedOf z (now (x .s)) (length (now (x .out)))) st, (r .1 .0 ∙ ap (λ (z : State). fedText z (now (x .s)) (now (x .out))) st, r .1 .1))
 
 pub feed-spec : {M : Type 1} → statement M

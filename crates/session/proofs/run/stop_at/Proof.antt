@@ -14,7 +14,7 @@ returns c =
     let read = c .before .before in
     let x = read .before .before .args in
     let rest = drop (x .at) (now (x .s)) in
-    ap stopOf (sym (whole-found (form rest) rest (x .at) _ _ _ _ _ (sym (read .read-record .ensures) ∙ c .enum-told .given .1) .stands))
+    ap stopOf (sym (whole-found (form rest) rest (x .at) _ _ _ _ _ (sym (read .read-record .ensures) ∙ c .enum-told .given .1) .is-whole))
 
 returns-2 : tie.Need-returns-2
 returns-2 c =
