@@ -36,7 +36,7 @@ use Rattle.bench.specs.declared.End.the-variants as end
 use Rattle.bench.specs.declared.Reply.{Reply}
 use Rattle.bench.specs.Ports.{PortAfter, portAt, turnOf, stored, said, stepOf}
 use Rattle.bench.specs.Calls as calls
-use Rattle.bench.specs.Handing.{isFresh, lengthAt, safeHoldsAt, releasesAt, isLastAt, unlessSafe, allowed, partAt, handRules, handedTo, handedOut}
+use Rattle.bench.specs.Handing.{isFresh, lengthAt, safeHoldsAt, releasesAt, isLastAt, unlessSafe, allowedMark, partAt, handRules, handedTo, handedOut}
 use Rattle.bench.specs.History.{handsOn, octetsIn, octetsOut, responseAdmitted, requestAdmitted}
 use Rattle.bench.proofs.Index.{placed-same}
 use Rattle.bench.proofs.HandedOn as handing
@@ -49,10 +49,10 @@ pub record Hands (port : ℕ) (p : Port) (e : End) (mark : Mark) (spdu safe out 
 -- ---- the mark that a port's own call gave is allowed
 
 mark-allowed : (e : End) (p : Port) (spdu : List ℕ) (row : Bool) → (markOf row (releasesAt e p) ≡ Fresh → isLastAt e p spdu ≡ true)
-    → allowed e p (markOf row (releasesAt e p)) spdu ≡ markOf row (releasesAt e p)
+    → allowedMark e p (markOf row (releasesAt e p)) spdu ≡ markOf row (releasesAt e p)
 mark-allowed e p spdu row last = go (releasesAt e p) refl row last
   where
-    go : (r : Bool) → releasesAt e p ≡ r → (row : Bool) → (markOf row r ≡ Fresh → isLastAt e p spdu ≡ true) → allowed e p (markOf row r) spdu ≡ markOf row r
+    go : (r : Bool) → releasesAt e p ≡ r → (row : Bool) → (markOf row r ≡ Fresh → isLastAt e p spdu ≡ true) → allowedMark e p (markOf row r) spdu ≡ markOf row r
     go false is row last = refl
     go true is false last = simp is
     go true is true last = simp (is, last refl)
@@ -67,7 +67,7 @@ allowed-fresh : (allowed : Bool) → unlessSafe Fresh allowed ≡ Fresh → allo
 allowed-fresh true e = refl
 allowed-fresh false e = no (sym (ap isFresh e))
 
-pub only-released : (e : End) (p : Port) (mark : Mark) (spdu : List ℕ) → allowed e p mark spdu ≡ Fresh → (releasesAt e p && isLastAt e p spdu) ≡ true
+pub only-released : (e : End) (p : Port) (mark : Mark) (spdu : List ℕ) → allowedMark e p mark spdu ≡ Fresh → (releasesAt e p && isLastAt e p spdu) ≡ true
 only-released e p Fresh spdu h = allowed-fresh (releasesAt e p && isLastAt e p spdu) h
 only-released e p GoesOn spdu h = absurd (not-fresh GoesOn (releasesAt e p) refl h)
 only-released e p Safe spdu h = no (sym (ap isFresh h))
@@ -115,7 +115,7 @@ module _ (port : ℕ) (known : outside 1 8 port ≡ false) (p : Port) (runs : p 
     part-at : image.handedOn mark mode spdu safe ≡ part → partAt e p mark spdu safe ≡ part
     part-at part-is =
         ap (λ (m : Mark). image.handedOn m mode spdu safe)
-        (ap (λ (m : Mark). allowed e p m spdu) is ∙ mark-allowed e p spdu row (λ f. fresh (is ∙ f) .0) ∙ sym is)
+        (ap (λ (m : Mark). allowedMark e p m spdu) is ∙ mark-allowed e p spdu row (λ f. fresh (is ∙ f) .0) ∙ sym is)
         ∙ part-is
 
     hands : safeHoldsAt e (p .setting .params) safe ≡ true → image.handedOn mark mode spdu safe ≡ part → length part ≤ length out

@@ -51,14 +51,14 @@ isLastAt end.Device p spdu = isLastRequest p spdu
 abbrev pub unlessSafe : Mark → Bool → Mark
 unlessSafe mark allowed = cond allowed mark Safe
 
-abbrev pub allowed : End → Port → Mark → List ℕ → Mark
-allowed e p Fresh spdu = unlessSafe Fresh (releasesAt e p && isLastAt e p spdu)
-allowed e p GoesOn spdu = unlessSafe GoesOn (releasesAt e p)
-allowed e p Safe spdu = Safe
-allowed e p Nothing spdu = Nothing
+abbrev pub allowedMark : End → Port → Mark → List ℕ → Mark
+allowedMark e p Fresh spdu = unlessSafe Fresh (releasesAt e p && isLastAt e p spdu)
+allowedMark e p GoesOn spdu = unlessSafe GoesOn (releasesAt e p)
+allowedMark e p Safe spdu = Safe
+allowedMark e p Nothing spdu = Nothing
 
 abbrev pub partAt : End → Port → Mark → List ℕ → List ℕ → List ℕ
-partAt e p mark spdu safe = image.handedOn (allowed e p mark spdu) (p .setting .params .«FSP_ProtMode») spdu safe
+partAt e p mark spdu safe = image.handedOn (allowedMark e p mark spdu) (p .setting .params .«FSP_ProtMode») spdu safe
 
 abbrev pub isFresh : Mark → Bool
 isFresh Fresh = true

@@ -76,8 +76,8 @@ fn unless_safe(mark: Mark, allowed: bool) -> Mark
     if allowed { mark } else { Mark::Safe }
 }
 
-fn allowed(end: End, p: Port, mark: Mark, spdu: &[u8]) -> Mark
-    ensures { λ r. ⌜ r ≡ handing.allowed end p mark (now (spdu .entry)) ⌝ }
+fn allowed_mark(end: End, p: Port, mark: Mark, spdu: &[u8]) -> Mark
+    ensures { λ r. ⌜ r ≡ handing.allowedMark end p mark (now (spdu .entry)) ⌝ }
 {
     let releases = releases_at(end, p);
     match mark {
@@ -107,7 +107,7 @@ fn safe_holds_at(end: End, params: Params, safe: &[u8]) -> bool
 fn part_at<'a>(end: End, p: Port, mark: Mark, spdu: &'a [u8], safe: &'a [u8]) -> &'a [u8]
     ensures { λ r. ⌜ now r ≡ handing.partAt end p mark (now (spdu .entry)) (now (safe .entry)) ⌝ }
 {
-    let allowed = allowed(end, p, mark, spdu);
+    let allowed = allowed_mark(end, p, mark, spdu);
     spdu::handed_on(allowed, p.setting.params.FSP_ProtMode, spdu, safe)
 }
 

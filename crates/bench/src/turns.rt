@@ -47,13 +47,13 @@ pub fn turn(setting: Setting, live: Live, happening: Happening) -> Turned
     ensures { λ r. ⌜ r ≡ ports.turnOf setting live happening ⌝ }
 {
     let w = setting.params.FSP_WatchdogTime;
-    let turn = turn_master(live.master, w, happening);
+    let of_master = turn_master(live.master, w, happening);
     let stepped = fs_device::step(live.device, w, happening);
-    let counted = tallied(live.totals, w, turn.passes_anew, turn.t);
+    let counted = tallied(live.totals, w, of_master.passes_anew, of_master.t);
     let totals = counted.totals;
     let device = stepped.device;
-    let master = turn.master;
-    let master_mark = turn.mark;
+    let master = of_master.master;
+    let master_mark = of_master.mark;
     let device_mark = stepped.mark;
     Turned {
         live: Live {
@@ -63,7 +63,7 @@ pub fn turn(setting: Setting, live: Live, happening: Happening) -> Turned
             unused: live.unused,
         },
         counts: counted.counted,
-        bin: histogram::bin(w, turn.t),
+        bin: histogram::bin(w, of_master.t),
         master: master_mark,
         device: device_mark,
     }

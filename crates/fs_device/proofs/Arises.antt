@@ -28,7 +28,7 @@ use Rattle.fs_device.proofs.Faults as faults
 use Rattle.fs_device.proofs.Watchdog as watchdog
 use Rattle.fs_device.proofs.Cycles as cycles
 use Rattle.fs_device.proofs.Reports as reports
-use Rattle.fs_device.proofs.Delayed as moving
+use Rattle.fs_device.proofs.Delayed as delaying
 
 -- an SPDU with this MCount and setSD, whose signature and port number hold or not
 abbrev request : ℕ → Bool → Bool → Bool → Request
@@ -220,10 +220,10 @@ met = record {
   mirrored = faults.mirrored block 100 (pastBefore 7) refl;
   in-time = faults.in-time (deviceBefore 7) 100 144 (omega arith);
   unchanged-same = faults.unchanged-same (deviceBefore 7) 100 beside refl;
-  delayed-step = moving.delayed-step 5 (deviceBefore 7) 100 beside (omega arith) (omega arith);
-  delayed-after = moving.delayed-after 5 block 100 (pastBefore 3) (omega arith) (more (omega arith) (more (omega arith) (more (omega arith) none)));
+  delayed-step = delaying.delayed-step 5 (deviceBefore 7) 100 beside (omega arith) (omega arith);
+  delayed-after = delaying.delayed-after 5 block 100 (pastBefore 3) (omega arith) (more (omega arith) (more (omega arith) (more (omega arith) none)));
   delayed-call =
-      moving.delayed-call 5 block 100 (pastBefore 3) (happening.Request 14 (set 0)) (omega arith) (omega arith)
+      delaying.delayed-call 5 block 100 (pastBefore 3) (happening.Request 14 (set 0)) (omega arith) (omega arith)
       (more (omega arith) (more (omega arith) (more (omega arith) none)));
   admitted-in-21 = faults.admitted-in-21 block 100 (pastBefore 1) 4294967295 zeros refl;
   admitted-in-24 = faults.admitted-later block 100 (pastBefore 3) 14 (set 0) refl;

@@ -61,9 +61,9 @@ module _ (k : ℕ) where
   delayed-arrived d r at q failed =
       simp (delayed-arrival d (isFailure failed), delayed-admitted d q, delayed-act (admitted d q) (arrivalRow d (isFailure failed)) at (q .setSD) (isFailure failed), delayed-released)
 
-  delayed-taking : (d : Device) (q : Request) → isAdmitted (delayedDevice k d) q ≡ isAdmitted d q
+  delayed-admitting : (d : Device) (q : Request) → isAdmitted (delayedDevice k d) q ≡ isAdmitted d q
   unfolding isAdmitted delayedDevice
-  delayed-taking d q = refl
+  delayed-admitting d q = refl
 
   delayed-check : (d : Device) (q : Request) → checked (delayedDevice k d) q ≡ checked d q
   unfolding checked delayedDevice
@@ -76,7 +76,7 @@ module _ (k : ℕ) where
   delayed-received : (d : Device) (r : Row) (at : ℕ) (q : Request) → received (delayedDevice k d) r (delayed k at) q ≡ delayedOutcome k (received d r at q)
   unfolding received
   delayed-received d r at q =
-      rw (delayed-taking d q, delayed-check d q, delayed-old d q)
+      rw (delayed-admitting d q, delayed-check d q, delayed-old d q)
       (cond-both (λ (a b : Outcome). a ≡ delayedOutcome k b) (isAdmitted d q) (delayed-arrived d r at q (checked d q)) (delayed-quiet d r (isOld d q)))
 
   delayed-clocked : (d : Device) (w at : ℕ) → d .DTimer < 2 ^ 32 → at < 2 ^ 32 → clocked (delayedDevice k d) w (delayed k at) ≡ delayedOutcome k (clocked d w at)
@@ -105,23 +105,23 @@ timer-fits : (at w : ℕ) (past : List Happening) → at < 2 ^ 32 → OnClock pa
 timer-fits at w past fits on = rw (timer-reads at w past) (last-fits (deviceAfter at w) (λ d h. arrives w d h || watches w d h) at fits on)
 
 module _ (k at w : ℕ) where
-  abbrev Moves : List Happening → Type 0
-  Moves past = deviceAfter (delayed k at) w (delayedPast k past) ≡ delayedDevice k (deviceAfter at w past)
+  abbrev Delays : List Happening → Type 0
+  Delays past = deviceAfter (delayed k at) w (delayedPast k past) ≡ delayedDevice k (deviceAfter at w past)
 
-  abbrev MovesThen : List Happening → Happening → Type 0
-  MovesThen past h =
+  abbrev DelaysThen : List Happening → Happening → Type 0
+  DelaysThen past h =
       stepOf (deviceAfter (delayed k at) w (delayedPast k past)) w (delayedHappening k h) ≡ delayedOutcome k (stepOf (deviceAfter at w past) w h)
 
-  delayed-then : (past : List Happening) (h : Happening) → at < 2 ^ 32 → readingOf h < 2 ^ 32 → OnClock past → Moves past → MovesThen past h
+  delayed-then : (past : List Happening) (h : Happening) → at < 2 ^ 32 → readingOf h < 2 ^ 32 → OnClock past → Delays past → DelaysThen past h
   delayed-then past h fits reading-fits on e = rw e (delayed-step k (deviceAfter at w past) w h (timer-fits at w past fits on) reading-fits)
 
   -- The wrap of the clock changes nothing: of every history, all readings later by the same amount, the device is as it was but for DTimer,
-  pub delayed-after : (past : List Happening) → at < 2 ^ 32 → OnClock past → Moves past
+  pub delayed-after : (past : List Happening) → at < 2 ^ 32 → OnClock past → Delays past
   unfolding deviceAfter delayedOutcome
   delayed-after [] fits none = delayed-first k at
   delayed-after (h ∷ past) fits (more reading-fits on) =
       ap (λ (o : Outcome). o .device) (delayed-then past h fits reading-fits on (delayed-after past fits on))
 
   -- and each call's outcome is as it was.
-  pub delayed-call : (past : List Happening) (h : Happening) → at < 2 ^ 32 → readingOf h < 2 ^ 32 → OnClock past → MovesThen past h
+  pub delayed-call : (past : List Happening) (h : Happening) → at < 2 ^ 32 → readingOf h < 2 ^ 32 → OnClock past → DelaysThen past h
   delayed-call past h fits reading-fits on = delayed-then past h fits reading-fits on (delayed-after past fits on)

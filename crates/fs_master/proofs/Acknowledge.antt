@@ -27,8 +27,8 @@ use Rattle.fs_master.proofs.Signals.{watched-signals, signals-hold}
 use Rattle.fs_master.proofs.Watchdog.{timer-runs, timed-out, not-timed-out}
 
 -- how far the acknowledgement is, by the FS-Master's variables: a fault is open in state 7 alone
-abbrev standing : Master → Fault
-standing m = cond (eqb (m .state) 7) (cond (m .«ChFAck_C_e») Asked (cond (m .«ChFAckReq_S») Pressed Open)) None
+abbrev stage : Master → Fault
+stage m = cond (eqb (m .state) 7) (cond (m .«ChFAck_C_e») Asked (cond (m .«ChFAckReq_S») Pressed Open)) None
 
 -- a fault that is open is not none
 opened : (edge request : Bool) → cond edge Asked (cond request Pressed Open) ≡ None → true ≡ false
@@ -38,10 +38,10 @@ opened false false e = let z : _≡_ {A = ℕ} 0 1 = cc in absurd (omega arith)
 
 -- ---- one call
 
-watched-fault : (m : Master) (w at : ℕ) (s : Fault) → Held m → m .runs ≡ not (eqb (m .state) 2) → s ≡ standing m → cond (timesOut m w at) Open s ≡ standing (watched m w at)
+watched-fault : (m : Master) (w at : ℕ) (s : Fault) → Held m → m .runs ≡ not (eqb (m .state) 2) → s ≡ stage m → cond (timesOut m w at) Open s ≡ stage (watched m w at)
 watched-fault m w at s h outside p = go (timesOut m w at) refl
   where
-    go : (b : Bool) → timesOut m w at ≡ b → cond b Open s ≡ standing (watched m w at)
+    go : (b : Bool) → timesOut m w at ≡ b → cond b Open s ≡ stage (watched m w at)
     go true e = let d = timed-out m w at h outside e in simp (d .in7, d .no-edge, d .no-request)
     go false e = rw (not-timed-out m w at e) p
 
@@ -55,29 +55,29 @@ asked false true request e = refl
 asked false false true e = refl
 asked false false false e = refl
 
-row-fault : (m : Master) (f : Response) (at : ℕ) (faults : Bool) (s : Fault) → Held m → s ≡ standing m
-    → cond faults Open (answeredBy (m .«ChFAck_C») s) ≡ standing (acted (admitted m f) (arrivalRow m faults) at (f .SDset))
+row-fault : (m : Master) (f : Response) (at : ℕ) (faults : Bool) (s : Fault) → Held m → s ≡ stage m
+    → cond faults Open (answeredBy (m .«ChFAck_C») s) ≡ stage (acted (admitted m f) (arrivalRow m faults) at (f .SDset))
 unfolding acted admitted answeredBy t4 t7 t11 t12 t13
 row-fault m f at faults s h p =
-    row-case (λ (r : Row). cond faults Open (answeredBy (m .«ChFAck_C») s) ≡ standing (acted (admitted m f) r at (f .SDset))) m faults
+    row-case (λ (r : Row). cond faults Open (answeredBy (m .«ChFAck_C») s) ≡ stage (acted (admitted m f) r at (f .SDset))) m faults
     (λ n z. rw (z, simp n at p))
     (λ n z. rw z (simp (h .no-edge n, sym (h .same) ∙ h .no-request n)))
     (λ y z e. rw (z, and-left (m .«ChFAck_C») (m .«ChFAck_C_e») e, simp (y, and-right (m .«ChFAck_C») (m .«ChFAck_C_e») e) at p))
     (λ _ z. rw z)
     (λ y z e. rw (z, simp y at p) (asked (m .«ChFAck_C») (m .«ChFAck_C_e») (m .«ChFAckReq_S») e))
 
-received-fault : (m : Master) (r : Row) (at : ℕ) (f : Response) (s : Fault) → Held m → s ≡ standing m
-    → cond (isAdmitted m f && isFaulty m f) Open (cond (isAdmitted m f) (answeredBy (m .«ChFAck_C») s) s) ≡ standing (received m r at f .master)
+received-fault : (m : Master) (r : Row) (at : ℕ) (f : Response) (s : Fault) → Held m → s ≡ stage m
+    → cond (isAdmitted m f && isFaulty m f) Open (cond (isAdmitted m f) (answeredBy (m .«ChFAck_C») s) s) ≡ stage (received m r at f .master)
 unfolding received arrived quiet
 received-fault m r at f s h p = go (isAdmitted m f)
   where
-    go : (b : Bool) → cond (b && isFaulty m f) Open (cond b (answeredBy (m .«ChFAck_C») s) s) ≡ standing (cond b (arrived m r at f (checked m f)) (quiet m r (isOld m f)) .master)
+    go : (b : Bool) → cond (b && isFaulty m f) Open (cond b (answeredBy (m .«ChFAck_C») s) s) ≡ stage (cond b (arrived m r at f (checked m f)) (quiet m r (isOld m f)) .master)
     go true = rw (faulty-is m f) (row-fault m f at (hasFaults (isFailure (checked m f)) f) s h p)
     go false = p
 
-step-fault : (m : Master) (w : ℕ) (h : Happening) (k : Signals) (s : Fault) → HasSignals k m → Held m → s ≡ standing (watched m w (readingOf h))
+step-fault : (m : Master) (w : ℕ) (h : Happening) (k : Signals) (s : Fault) → HasSignals k m → Held m → s ≡ stage (watched m w (readingOf h))
     → let j = watched m w (readingOf h) in
-    cond (faultyBy j h) Open (cond (admittedBy j h) (answeredBy (k .«ChFAck_C») s) s) ≡ standing (stepOf m w h .master)
+    cond (faultyBy j h) Open (cond (admittedBy j h) (answeredBy (k .«ChFAck_C») s) s) ≡ stage (stepOf m w h .master)
 unfolding stepOf clocked operated quiet signalled faultyBy admittedBy
 step-fault m w (happening.Response at f) k s c i p =
     rw (sym (watched-signals m w at c .1)) (received-fault (watched m w at) (watchdogRow m w at) at f s (watched-held m w at i) p)
@@ -94,20 +94,20 @@ requested-as true false false n y = refl
 requested-as false edge request n y = n refl
 
 module _ (at w : ℕ) where
-  stands : (past : List Happening) → fault at w past ≡ standing (masterAfter at w past)
+  stage-is : (past : List Happening) → fault at w past ≡ stage (masterAfter at w past)
   unfolding masterAfter fault watchedIn
-  stands [] = refl
-  stands (h ∷ past) =
+  stage-is [] = refl
+  stage-is (h ∷ past) =
       let m = masterAfter at w past in
       step-fault m w h (signals past) _ (signals-hold at w past) (always-held at w past)
-      (watched-fault m w (readingOf h) (fault at w past) (always-held at w past) (timer-runs at w past) (stands past))
+      (watched-fault m w (readingOf h) (fault at w past) (always-held at w past) (timer-runs at w past) (stage-is past))
 
   -- ChFAckReq_S is 1 exactly where it was asked for and not yet acknowledged.
   pub requested : (past : List Happening) → masterAfter at w past .«ChFAckReq_S» ≡ isRequested (fault at w past)
   requested past =
       let m = masterAfter at w past in
       let h = always-held at w past in
-      rw (stands past) (requested-as (eqb (m .state) 7) (m .«ChFAck_C_e») (m .«ChFAckReq_S») (λ e. sym (h .same) ∙ h .no-request e) (h .requested))
+      rw (stage-is past) (requested-as (eqb (m .state) 7) (m .«ChFAck_C_e») (m .«ChFAckReq_S») (λ e. sym (h .same) ∙ h .no-request e) (h .requested))
 
   -- While values are released no fault is open: since the last one a response without FAULTS came while ChFAck_C was 0, and later one while it was 1.
   pub acknowledged : (past : List Happening) → masterAfter at w past .released ≡ true → fault at w past ≡ None
@@ -115,7 +115,7 @@ module _ (at w : ℕ) where
     where
       go : (b : Bool) → eqb (masterAfter at w past .state) 7 ≡ b → fault at w past ≡ None
       go true s = no (sym e ∙ always-held at w past .safe s)
-      go false s = simp s at (stands past)
+      go false s = simp s at (stage-is past)
 
   -- While a fault is open setSD is 1 in what goes out, and SDset_S with it;
   pub sends-safe : (past : List Happening) → (fault at w past ≡ None → ⊥) → (masterAfter at w past .setSD ≡ true) × (masterAfter at w past .«SDset_S» ≡ true)
@@ -123,7 +123,7 @@ module _ (at w : ℕ) where
     where
       go : (b : Bool) → eqb (masterAfter at w past .state) 7 ≡ b → (masterAfter at w past .setSD ≡ true) × (masterAfter at w past .«SDset_S» ≡ true)
       go true s = let h = always-held at w past in (h .sent s, h .set (h .sent s))
-      go false s = absurd (faulty (simp s at (stands past)))
+      go false s = absurd (faulty (simp s at (stage-is past)))
 
 -- while none is, it is the setSD_C there was when the last response was admitted.
 
@@ -164,7 +164,7 @@ module _ (at w : ℕ) where
       m = masterAfter at w past
 
       go : (b : Bool) → eqb (m .state) 7 ≡ b → m .setSD ≡ setWhenAdmitted at w past
-      go true s = no (opened (m .«ChFAck_C_e») (m .«ChFAckReq_S») (sym (simp s at (stands at w past)) ∙ e))
+      go true s = no (opened (m .«ChFAck_C_e») (m .«ChFAckReq_S») (sym (simp s at (stage-is at w past)) ∙ e))
       go false s = set-by past s
 
 -- ---- FAULTS are the rows T7, T8, T12 and T14

@@ -32,8 +32,8 @@ use Rattle.fs_master.proofs.Acknowledge as acknowledge
 use Rattle.fs_master.proofs.Watchdog as watchdog
 use Rattle.fs_master.proofs.Counts as counts
 use Rattle.fs_master.proofs.Faults as faults
-use Rattle.fs_master.proofs.Admitted as taking
-use Rattle.fs_master.proofs.Delayed as moving
+use Rattle.fs_master.proofs.Admitted as admitting
+use Rattle.fs_master.proofs.Delayed as delaying
 use Rattle.fs_master.proofs.Regulars as regulars
 
 -- a response of this DCount_i, with SDset, DCommErr, DTimeout, and whether port and signature hold
@@ -95,11 +95,11 @@ pub record Line : Type 0 where
   passed : Bool
   old : Bool
   mark : Mark
-  standing : Fault
+  stage : Fault
   sent : Sent
 
 abbrev line : Happening → Row → Row → Check → Bool → Bool → Mark → Fault → Sent → Line
-line h watchdog arrival failed passed old mark standing sent = record {
+line h watchdog arrival failed passed old mark stage sent = record {
   happens = h;
   watchdog = watchdog;
   arrival = arrival;
@@ -107,7 +107,7 @@ line h watchdog arrival failed passed old mark standing sent = record {
   passed = passed;
   old = old;
   mark = mark;
-  standing = standing;
+  stage = stage;
   sent = sent;
 }
 
@@ -237,10 +237,10 @@ premises-met = record {
       release.fresh-if (after 9) 100 330 (good 6)
       (record { admitted = refl; signature = refl; port = refl; count = refl; no-error = refl; no-timeout = refl; not-set = refl; not-asked = refl; acknowledged = λ _. refl });
   release-begins = release.release-begins (after 9) 100 releasingAgain refl;
-  admitted-in-2 = taking.admitted-in-2 0 100 (first 1) releasing (good 7) refl;
-  admitted-in-5 = taking.admitted-in-5 0 100 (first 3) (happening.Clock 30) (good 7) refl;
-  admitted-in-7 = taking.admitted-in-7 0 100 (first 17) (happening.Clock 410) (good 1) refl;
-  admitted-again = taking.admitted-in-7 0 100 (first 7) (happening.Clock 310) (good 7) refl;
+  admitted-in-2 = admitting.admitted-in-2 0 100 (first 1) releasing (good 7) refl;
+  admitted-in-5 = admitting.admitted-in-5 0 100 (first 3) (happening.Clock 30) (good 7) refl;
+  admitted-in-7 = admitting.admitted-in-7 0 100 (first 17) (happening.Clock 410) (good 1) refl;
+  admitted-again = admitting.admitted-in-7 0 100 (first 7) (happening.Clock 310) (good 7) refl;
   all-zero = faults.all-zero (after 18) zeros refl;
   discarded = faults.discarded (after 16) 100 400 (good 4) refl;
   faulty-safe = faults.faulty-safe (after 11) 100 350 (damaged 4) refl refl;
@@ -251,8 +251,8 @@ premises-met = record {
   in-time = rows.in-time (after 2) 100 20 (omega arith);
   is-regular = refl;
   regular-step = regulars.regular-step (after 10) 100 340 (set 5) refl;
-  delayed-step = moving.delayed-step 5 (after 2) 100 (happening.Clock 20) (omega arith) (omega arith);
-  delayed-after = moving.delayed-after 4294967281 0 100 (omega arith) on-clock;
+  delayed-step = delaying.delayed-step 5 (after 2) 100 (happening.Clock 20) (omega arith) (omega arith);
+  delayed-after = delaying.delayed-after 4294967281 0 100 (omega arith) on-clock;
   acknowledged = acknowledge.acknowledged 0 100 (first 10) refl;
   passed-first = release.passed-first 0 100 (first 2) refl;
   late-silent = watchdog.late 0 100 (first 5) (happening.Clock 111) refl (omega arith);

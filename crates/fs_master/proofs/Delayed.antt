@@ -76,9 +76,9 @@ module _ (k : ℕ) where
   delayed-arrived m r at f failed =
       simp (delayed-arrival m (hasFaults (isFailure failed) f), delayed-admitted m f, delayed-act (admitted m f) (arrivalRow m (hasFaults (isFailure failed) f)) at (f .SDset), delayed-old m f, delayed-released, delayed-sent)
 
-  delayed-taking : (m : Master) (f : Response) → isAdmitted (delayedMaster k m) f ≡ isAdmitted m f
+  delayed-admitting : (m : Master) (f : Response) → isAdmitted (delayedMaster k m) f ≡ isAdmitted m f
   unfolding isAdmitted isOld delayedMaster
-  delayed-taking m f = refl
+  delayed-admitting m f = refl
 
   delayed-check : (m : Master) (f : Response) → checked (delayedMaster k m) f ≡ checked m f
   unfolding checked delayedMaster
@@ -87,7 +87,7 @@ module _ (k : ℕ) where
   delayed-received : (m : Master) (r : Row) (at : ℕ) (f : Response) → received (delayedMaster k m) r (delayed k at) f ≡ delayedOutcome k (received m r at f)
   unfolding received
   delayed-received m r at f =
-      rw (delayed-taking m f, delayed-check m f, delayed-old m f)
+      rw (delayed-admitting m f, delayed-check m f, delayed-old m f)
       (cond-both (λ (a b : Outcome). a ≡ delayedOutcome k b) (isAdmitted m f) (delayed-arrived m r at f (checked m f)) (delayed-quiet m r (isOld m f)))
 
   delayed-clocked : (m : Master) (w at : ℕ) → m .MTimer < 2 ^ 32 → at < 2 ^ 32 → clocked (delayedMaster k m) w (delayed k at) ≡ delayedOutcome k (clocked m w at)

@@ -4,7 +4,7 @@ use Rattle.bench.proofs.handing.part_at.Statement.{statement}
 use Rattle.bench.proofs.handing.part_at.Tie as tie
 
 returns : tie.Need-returns
-returns c = simp (c .handed-on .ensures, c .before .allowed .ensures)
+returns c = simp (c .handed-on .ensures, c .before .allowed-mark .ensures)
 
 pub part-at-spec : {M : Type 1} → statement M
 part-at-spec = tie.close (tie.spec (λ c κs. search needs) (λ c κs. search needs) returns)

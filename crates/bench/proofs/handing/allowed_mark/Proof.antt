@@ -1,7 +1,7 @@
 -- `bench::handing::stands_for` meets its contract. Assumes nothing.
 use borrow.Author.Needs.{needs}
-use Rattle.bench.proofs.handing.allowed.Statement.{statement}
-use Rattle.bench.proofs.handing.allowed.Tie as tie
+use Rattle.bench.proofs.handing.allowed_mark.Statement.{statement}
+use Rattle.bench.proofs.handing.allowed_mark.Tie as tie
 
 returns : tie.Need-returns
 returns c = simp (c .unless-safe .ensures, c .before .is-last-at .ensures, c .before .before .enum-told .given .1, c .before .before .before .before .releases-at .ensures)
@@ -15,8 +15,8 @@ returns-3 c = simp (c .enum-told3 .given .1)
 returns-4 : tie.Need-returns-4
 returns-4 c = simp (c .enum-told4 .given .1)
 
-pub allowed-spec : {M : Type 1} → statement M
-allowed-spec =
+pub allowed-mark-spec : {M : Type 1} → statement M
+allowed-mark-spec =
     tie.close
     (tie.spec
     (λ c κs. search needs)
