@@ -58,6 +58,7 @@ sends : (q : ℕ) (p : Port) → Sends q p
 sends q p = record {
   request = λ process other octets taken. (sent.request-sent q p process other octets taken, sent.process-sent q p process other octets taken);
   response = λ process out taken responded. (sent.response-sent q p process out taken responded, sent.process-answered q p process out taken responded);
+  no-response = λ process out taken not-yet. sent.zeros-first q p process out taken not-yet;
 }
 
 hands-on : (q : ℕ) (p : Port) (at : ℕ) → HandsOn q p at

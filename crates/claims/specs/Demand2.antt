@@ -20,7 +20,7 @@ use Rattle.spdu.specs.Signature.{byBits}
 use Rattle.spdu.specs.Places.{processOf}
 use Rattle.spdu.specs.Fields.{responseBy, requestBy}
 use Rattle.spdu.specs.Image as image
-use Rattle.spdu.specs.RoundTrip.{requestBack, responseBack}
+use Rattle.spdu.specs.RoundTrip.{requestBack, responseBack, zerosBack}
 use Rattle.scl.specs.Time.{elapsedOf}
 use Rattle.scl.specs.Happenings.{readingOf}
 use Rattle.scl.specs.declared.Happening.{Happening}
@@ -79,6 +79,9 @@ pub record Sends (q : ℕ) (p : Port) : Type 0 where
       → let d = p .live .device in
       (responseBy byBits (p .setting .params) (responseOut q p process out) ≡ responseBack (d .«DCount_i») (d .SDset) (d .DCommErr) (d .DTimeout))
       × (processOf (p .setting .params .«FSP_ProtMode») (responseOut q p process out) ≡ process)
+  -- until the FS-Device has admitted an SPDU its own is zeros alone (R23), and so it is read
+  pub no-response : (process out : List ℕ) → isTaken (buildAnswer q p process out) ≡ true → p .live .device .responded ≡ false
+      → responseBy byBits (p .setting .params) (responseOut q p process out) ≡ zerosBack (p .setting .params)
 
 -- "Process values appear only where its tables release them, else safe values": what a call hands on that is answered TAKEN. `handsOn`: process octets of
 -- this call's SPDU where the end releases and the SPDU led to a row, zeros where the end does not release, else an empty part, and release goes on
