@@ -113,8 +113,9 @@ struct whakelouna_block_answer {
 // The answer to a parameter block for a port.
 struct whakelouna_block_answer whakelouna_judge_block(const uint8_t *octets, size_t length, uint8_t port);
 
-// What an FS-Master reads of an SPDU (000 Table 32). Of another length than SPDUInLength: count 0, every mark false.
+// What an FS-Master reads of an SPDU: its length, and its fields (000 Table 32). Of another length than SPDUInLength: count 0, every mark false.
 struct whakelouna_response {
+    size_t length;
     uint8_t DCount_i;
     bool SDset;
     bool DCommErr;
@@ -122,16 +123,19 @@ struct whakelouna_response {
     bool port_holds;
     bool signature_holds;
     bool all_zero;
+    uint8_t unused;
 };
 
 // What an FS-Device reads of an SPDU (000 Table 31), likewise with SPDUOutLength.
 struct whakelouna_request {
+    size_t length;
     uint8_t MCount;
     bool setSD;
     bool ChFAckReq;
     bool port_holds;
     bool signature_holds;
     bool all_zero;
+    uint16_t unused;
 };
 
 // Each takes both signature tables. A build fills `out`, which overlaps with nothing else that is passed, and returns 0; where a length is
@@ -150,7 +154,7 @@ uint8_t whakelouna_build_response_by(const uint16_t short_table[256], const uint
 // The SCL machines of 000 Tables 38 and 40. `state` is 000's number of the state in which the machine waits: of the FS-Master 2 (for the first response), 5
 // (regular operation) or 7 (after a fault, for the acknowledgement), of the FS-Device 21 (for the first SPDU), 24 (regular operation) or 26 (after an error
 // or a timeout). What a call does: rows by 000's numbers, 0 for none; the check that failed first (0 none, 1 signature, 2 port number, 3 count); the mark
-// (0 fresh octets, 1 release goes on, 2 safe values). A machine is given the fields of an SPDU and judges no length: 10 is the bench's.
+// (0 fresh octets, 1 release goes on, 2 safe values). A machine is given the fields of an SPDU and looks at no length: 10 is the bench's.
 struct whakelouna_fs_master {
     uint32_t MTimer, start;
     uint16_t carried, awaited;

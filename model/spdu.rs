@@ -31,6 +31,7 @@ pub struct Values {
 
 #[derive(Debug, PartialEq, Eq)]
 pub struct Fields {
+    pub length: usize,
     pub count: u8,
     pub marks: [bool; 3],
     pub port_holds: bool,
@@ -106,6 +107,7 @@ impl Format {
         let length = spdu.len();
         if length != usize::from(self.length) {
             return Fields {
+                length,
                 count: 0,
                 marks: [false; 3],
                 port_holds: false,
@@ -121,6 +123,7 @@ impl Format {
         let bits = number_bits(trailer[1].into(), 8);
         let bit2 = bits[5] && self.direction == Direction::Response;
         Fields {
+            length,
             count: bits_number(&bits[..3]) as u8,
             marks: [bit2, bits[6], bits[7]],
             port_holds: trailer[0] == self.port,

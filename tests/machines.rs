@@ -23,6 +23,7 @@ const HAPPENINGS: usize = 60;
 
 fn response(received: &Received) -> Response {
     Response {
+        length: 8,
         dcount_i: received.count,
         sd_set: received.bits[0],
         dcomm_err: received.bits[1],
@@ -30,17 +31,20 @@ fn response(received: &Received) -> Response {
         port_holds: received.port,
         signature_holds: received.signature,
         all_zero: received.zeros,
+        unused: 0,
     }
 }
 
 fn request(received: &Received) -> Request {
     Request {
+        length: 8,
         mcount: received.count,
         set_sd: received.bits[0],
         chf_ack_req: received.bits[1],
         port_holds: received.port,
         signature_holds: received.signature,
         all_zero: received.zeros,
+        unused: 0,
     }
 }
 

@@ -62,6 +62,7 @@ fn library_read(tables: &Tables, direction: Direction, params: Params, spdu: &[u
         Direction::Request => {
             let read = tables.read_request(params, spdu);
             Fields {
+                length: read.length,
                 count: read.mcount,
                 marks: [false, read.set_sd, read.chf_ack_req],
                 port_holds: read.port_holds,
@@ -72,6 +73,7 @@ fn library_read(tables: &Tables, direction: Direction, params: Params, spdu: &[u
         Direction::Response => {
             let read = tables.read_response(params, spdu);
             Fields {
+                length: read.length,
                 count: read.dcount_i,
                 marks: [read.sd_set, read.dcomm_err, read.dtimeout],
                 port_holds: read.port_holds,

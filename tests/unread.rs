@@ -192,14 +192,14 @@ impl Unread<'_> {
         for length in wrong(incoming.spdu) {
             let read = tables.read_response(self.params, self.octets(length));
             let marks = [read.port_holds, read.signature_holds, read.all_zero];
-            self.comparisons.compare([false; 3], marks, || {
+            self.comparisons.compare((length, [false; 3]), (read.length, marks), || {
                 format!("the fields of a response of {length} octets")
             });
         }
         for length in wrong(outgoing.spdu) {
             let read = tables.read_request(self.params, self.octets(length));
             let marks = [read.port_holds, read.signature_holds, read.all_zero];
-            self.comparisons.compare([false; 3], marks, || {
+            self.comparisons.compare((length, [false; 3]), (read.length, marks), || {
                 format!("the fields of a request of {length} octets")
             });
         }

@@ -243,18 +243,21 @@ pub struct Params {
 #[repr(C)]
 #[derive(Clone, Copy)]
 pub struct Request {
+    pub length: usize,
     pub mcount: u8,
     pub set_sd: bool,
     pub chf_ack_req: bool,
     pub port_holds: bool,
     pub signature_holds: bool,
     pub all_zero: bool,
+    pub unused: u16,
 }
 
 /// What an FS-Master reads of an SPDU.
 #[repr(C)]
 #[derive(Clone, Copy)]
 pub struct Response {
+    pub length: usize,
     pub dcount_i: u8,
     pub sd_set: bool,
     pub dcomm_err: bool,
@@ -262,6 +265,7 @@ pub struct Response {
     pub port_holds: bool,
     pub signature_holds: bool,
     pub all_zero: bool,
+    pub unused: u8,
 }
 
 #[repr(C)]

@@ -41,7 +41,7 @@ static const uint8_t *trailer(uint8_t mode, const uint8_t *spdu, size_t n)
 
 struct whakelouna_response reference_read_response(const struct whakelouna_params *params, const uint8_t *spdu, size_t n)
 {
-    struct whakelouna_response read = { 0 };
+    struct whakelouna_response read = { .length = n };
     if (n != params->SPDUInLength)
         return read;
     const uint8_t *end = trailer(params->FSP_ProtMode, spdu, n);
@@ -58,7 +58,7 @@ struct whakelouna_response reference_read_response(const struct whakelouna_param
 
 struct whakelouna_request reference_read_request(const struct whakelouna_params *params, const uint8_t *spdu, size_t n)
 {
-    struct whakelouna_request read = { 0 };
+    struct whakelouna_request read = { .length = n };
     if (n != params->SPDUOutLength)
         return read;
     const uint8_t *end = trailer(params->FSP_ProtMode, spdu, n);

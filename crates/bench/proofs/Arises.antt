@@ -403,13 +403,13 @@ no-response-yet = rw (faulty-matches .device) refl
 -- process octets as lent and the FS-Device's answer to its last request; zeros with setSD 1 while the fault is open; zeros before the first response
 pub record Out : Type 0 where
   process-sent : processOf (port .setting .params .«FSP_ProtMode») (sent 1 port process [] image) ≡ process
-  request-sent : requestBy byBits (port .setting .params) (sent 1 port process [] image) ≡ requestBack (port .live .master .MCount) false (port .live .master .ChFAckReq)
+  request-sent : requestBy byBits (port .setting .params) (sent 1 port process [] image) ≡ requestBack (port .setting .params) (port .live .master .MCount) false (port .live .master .ChFAckReq)
   zeros-with-setSD : let s = sent 1 port process [] image in processOf (port .setting .params .«FSP_ProtMode») s ≡ cond (requestBy byBits (port .setting .params) s .setSD) (replicate (octetsOut port) 0) process
   safe-while-faulty :
       let s = sent 1 faulty process [] image in
       (processOf (faulty .setting .params .«FSP_ProtMode») s ≡ replicate (octetsOut faulty) 0) × (requestBy byBits (faulty .setting .params) s .setSD ≡ true)
   process-answered : processOf (port .setting .params .«FSP_ProtMode») (responseOut 1 port process image) ≡ process
-  response-sent : responseBy byBits (port .setting .params) (responseOut 1 port process image) ≡ responseBack (port .live .device .«DCount_i») (port .live .device .SDset) (port .live .device .DCommErr) (port .live .device .DTimeout)
+  response-sent : responseBy byBits (port .setting .params) (responseOut 1 port process image) ≡ responseBack (port .setting .params) (port .live .device .«DCount_i») (port .live .device .SDset) (port .live .device .DCommErr) (port .live .device .DTimeout)
   zeros-first : responseBy byBits (faulty .setting .params) (responseOut 1 faulty process image) ≡ zerosBack (faulty .setting .params)
 
 pub out-met : Out
@@ -418,7 +418,7 @@ out-met =
     let built = builds port 1000 past matches-met in
     record {
       process-sent = sends.process-sent 1 port process [] image composed ∙ ap (λ (b : Bool). cond b (replicate (octetsOut port) 0) process) (asked .values-sent);
-      request-sent = sends.request-sent 1 port process [] image composed ∙ ap (λ (b : Bool). requestBack (port .live .master .MCount) b (port .live .master .ChFAckReq)) (asked .values-sent);
+      request-sent = sends.request-sent 1 port process [] image composed ∙ ap (λ (b : Bool). requestBack (port .setting .params) (port .live .master .MCount) b (port .live .master .ChFAckReq)) (asked .values-sent);
       zeros-with-setSD = sends.zeros-with-setSD 1 port process [] image composed;
       safe-while-faulty = sends.safe-while-faulty 1 refl damaged 1000 (paramsOf good) faultyPast faulty-block is-faulty process [] image (composes faulty 1000 faultyPast faulty-matches);
       process-answered = sends.process-answered 1 port process image built (asked .has-responded);

@@ -1,9 +1,10 @@
 -- After every list of calls from the new bench, a port holds what 01 says of the calls since its last accepted block. Assumes nothing.
 use Prim.Native.Nat.{ℕ, _≤_}
-use mathlib.Core.Path.{_≡_, refl, sym, ap, ap₂, _∙_}
-use mathlib.Core.Bool.{Bool, true, false, cond, _&&_}
+use mathlib.Core.Path.{_≡_, refl, sym, ap, ap₂, subst, _∙_}
+use mathlib.Core.Bool.{Bool, true, false, cond, not, _&&_}
 use mathlib.Core.List.{List, [], _∷_}
 use lib.Dec.{eqb, leb}
+use lib.ListN.{length}
 use borrow.Author.Tests.{eqb-true, leb-true, not-false}
 use Rattle.answer.specs.declared.Answer.the-variants.{Taken}
 use Rattle.answer.specs.Answers.{isTaken}
@@ -15,7 +16,9 @@ use Rattle.spdu.specs.Signature.{byBits}
 use Rattle.spdu.specs.Fields.{responseBy, requestBy}
 use Rattle.scl.specs.declared.Happening.{Happening}
 use Rattle.scl.specs.declared.Happening.the-variants as happening
-use Rattle.scl.proofs.Cases.{no, and-right}
+use Rattle.scl.specs.declared.Response.{Response}
+use Rattle.scl.specs.declared.Request.{Request}
+use Rattle.scl.proofs.Cases.{cond-case, no, and-right}
 use Rattle.fs_master.specs.declared.Master.{Master}
 use Rattle.fs_master.specs.Calls as masters
 use Rattle.fs_master.specs.History.{masterAfter}
@@ -30,7 +33,7 @@ use Rattle.samples.specs.Samples.{samples, histogramAfter}
 use Rattle.samples.proofs.Counted.{samples-within, samples-held, tallied-parts}
 use Rattle.bench.specs.declared.Port.{Port}
 use Rattle.bench.specs.Ports.{histogramOf, newPort, acceptedPort, portAt, turnOf, stored, said, stepOf}
-use Rattle.bench.specs.History.{Call, SetParameters, ReceiveResponse, ReceiveRequest, Clock, Operator, WithoutReading, addressed, rulesOf, answerOf, after, history, Since, never, since, goesOn, extended, sinceBlock, MatchesSince, Matches}
+use Rattle.bench.specs.History.{Call, SetParameters, ReceiveResponse, ReceiveRequest, Clock, Operator, WithoutReading, addressed, rulesOf, answerOf, after, history, Since, never, since, goesOn, extended, sinceBlock, Configured, nothing-came, came, MatchesSince, Matches}
 use Rattle.bench.proofs.Index.{new-at}
 use Rattle.bench.proofs.Answers.{answer-is, exactly, refused-same}
 use Rattle.bench.proofs.AtPort.{eight, takenAt, taken-at, other-at}
@@ -49,11 +52,12 @@ module _ (p : Port) (at : ℕ) (params : Params) (past : List Happening) (s : Ma
       ∙ ap (λ (k : Histogram). stepped k (p .live .master) (p .setting .params .«FSP_WatchdogTime») h) (s .histogram)
       ∙ ap₂ (λ (m : Master) (w : ℕ). stepped (histogramAfter at (params .«FSP_WatchdogTime») past) m w h) (s .master) watchdog-is
 
-  step-matches : MatchesSince (stepOf p h .port) at params (h ∷ past)
+  step-matches : Configured params h → MatchesSince (stepOf p h .port) at params (h ∷ past)
   unfolding stepOf stored said turnOf masterAfter deviceAfter
-  step-matches = record {
+  step-matches length-is = record {
     running = s .running;
     parameters = s .parameters;
+    lengths = came length-is (s .lengths);
     master = ap₂ (λ (m : Master) (w : ℕ). masters.stepOf m w h .master) (s .master) watchdog-is;
     device = ap₂ (λ (d : Device) (w : ℕ). devices.stepOf d w h .device) (s .device) watchdog-is;
     histogram = histogram-is;
@@ -64,21 +68,37 @@ module _ (p : Port) (at : ℕ) (params : Params) (past : List Happening) (s : Ma
 
 -- ---- one call that is not refused
 
-goes-matches : (p : Port) (h : Params → Happening) (s : Since) → p .setting .running ≡ true → Matches p s → Matches (stepOf p (h (p .setting .params)) .port) (goesOn s h)
+goes-matches : (p : Port) (h : Params → Happening) (s : Since) → p .setting .running ≡ true → Configured (p .setting .params) (h (p .setting .params)) → Matches p s → Matches (stepOf p (h (p .setting .params)) .port) (goesOn s h)
 unfolding Matches goesOn newPort
-goes-matches p h never r z = let e : true ≡ false = sym r ∙ ap (λ (q : Port). q .setting .running) z in no e
-goes-matches p h (since at params past) r z =
-    rw (ap h (z .parameters)) (step-matches p at params past z (h params))
+goes-matches p h never r l z = let e : true ≡ false = sym r ∙ ap (λ (q : Port). q .setting .running) z in no e
+goes-matches p h (since at params past) r l z =
+    rw (ap h (z .parameters)) (step-matches p at params past z (h params) (subst (λ (q : Params). Configured q (h q)) (z .parameters) l))
+
+-- an SPDU that 10 does not refuse, read
+response-length : (p : Params) (at : ℕ) (spdu : List ℕ) → not (eqb (length spdu) (p .SPDUInLength)) ≡ false → Configured p (happening.Response at (responseBy byBits p spdu))
+unfolding Configured
+response-length p at spdu e =
+    let b = eqb (length spdu) (p .SPDUInLength) in
+    let is : length spdu ≡ p .SPDUInLength = eqb-true (length spdu) (p .SPDUInLength) (not-false b e) in
+    cond-case (λ (f : Response). f .length ≡ p .SPDUInLength) b (λ _. is) (λ _. is)
+
+request-length : (p : Params) (at : ℕ) (spdu : List ℕ) → not (eqb (length spdu) (p .SPDUOutLength)) ≡ false → Configured p (happening.Request at (requestBy byBits p spdu))
+unfolding Configured
+request-length p at spdu e =
+    let b = eqb (length spdu) (p .SPDUOutLength) in
+    let is : length spdu ≡ p .SPDUOutLength = eqb-true (length spdu) (p .SPDUOutLength) (not-false b e) in
+    cond-case (λ (q : Request). q .length ≡ p .SPDUOutLength) b (λ _. is) (λ _. is)
 
 small-watchdog : (octets : List ℕ) (port : ℕ) (p : Port) (at : ℕ) → Kept (rulesOf p (SetParameters port at octets)) → paramsOf octets .«FSP_WatchdogTime» ≤ 65535
 unfolding rulesOf
 small-watchdog octets port p at k = let w = paramsOf octets .«FSP_WatchdogTime» in leb-true w 65535 (and-right (leb 1 w) (leb w 65535) (not-false (leb 1 w && leb w 65535) (k .each 14)))
 
 taken-matches : (p : Port) (s : Since) (c : Call) → Kept (rulesOf p c) → Matches p s → Matches (takenAt p c) (extended s c)
-unfolding takenAt extended rulesOf Matches acceptedPort masterAfter deviceAfter samples histogramAfter
+unfolding takenAt extended rulesOf Matches Configured acceptedPort masterAfter deviceAfter samples histogramAfter
 taken-matches p s (SetParameters port at octets) k z = record {
   running = refl;
   parameters = refl;
+  lengths = nothing-came;
   master = refl;
   device = refl;
   histogram = refl;
@@ -86,10 +106,10 @@ taken-matches p s (SetParameters port at octets) k z = record {
   within = none;
   small = small-watchdog octets port p at k;
 }
-taken-matches p s (ReceiveResponse port at spdu safe) k z = goes-matches p (λ q. happening.Response at (responseBy byBits q spdu)) s (not-false (p .setting .running) (k .each 1)) z
-taken-matches p s (ReceiveRequest port at spdu safe) k z = goes-matches p (λ q. happening.Request at (requestBy byBits q spdu)) s (not-false (p .setting .running) (k .each 1)) z
-taken-matches p s (Clock port at safeIn safeOut) k z = goes-matches p (λ q. happening.Clock at) s (not-false (p .setting .running) (k .each 1)) z
-taken-matches p s (Operator port at «setSD_C» «ChFAck_C» safe) k z = goes-matches p (λ q. happening.Operator at «setSD_C» «ChFAck_C») s (not-false (p .setting .running) (k .each 1)) z
+taken-matches p s (ReceiveResponse port at spdu safe) k z = goes-matches p (λ q. happening.Response at (responseBy byBits q spdu)) s (not-false (p .setting .running) (k .each 1)) (response-length (p .setting .params) at spdu (k .each 2)) z
+taken-matches p s (ReceiveRequest port at spdu safe) k z = goes-matches p (λ q. happening.Request at (requestBy byBits q spdu)) s (not-false (p .setting .running) (k .each 1)) (request-length (p .setting .params) at spdu (k .each 2)) z
+taken-matches p s (Clock port at safeIn safeOut) k z = goes-matches p (λ q. happening.Clock at) s (not-false (p .setting .running) (k .each 1)) refl z
+taken-matches p s (Operator port at «setSD_C» «ChFAck_C» safe) k z = goes-matches p (λ q. happening.Operator at «setSD_C» «ChFAck_C») s (not-false (p .setting .running) (k .each 1)) refl z
 taken-matches p s (WithoutReading port act) k z = z
 
 -- ---- every history

@@ -101,7 +101,7 @@ module _ (q : ℕ) (p : Port) where
           ∙ ap (λ (n : ℕ). cond (master .setSD) (replicate n 0) process) n
 
       -- what the FS-Device of the same parameters reads
-      pub request-sent : requestBy byBits params sent ≡ requestBack (master .MCount) (master .setSD) (master .ChFAckReq)
+      pub request-sent : requestBy byBits params sent ≡ requestBack params (master .MCount) (master .setSD) (master .ChFAckReq)
       request-sent =
           ap (requestBy byBits params) sent-is
           ∙ request-back params values (master .MCount) (master .setSD) (master .ChFAckReq) values-size
@@ -144,7 +144,7 @@ module _ (q : ℕ) (p : Port) where
       process-answered = ap (processOf mode) (response-is responded) ∙ read-process byBits mode process (params .«FSP_Port») status
 
       -- what the FS-Master of the same parameters reads
-      pub response-sent : responseBy byBits params response ≡ responseBack (device .«DCount_i») (device .SDset) (device .DCommErr) (device .DTimeout)
+      pub response-sent : responseBy byBits params response ≡ responseBack params (device .«DCount_i») (device .SDset) (device .DCommErr) (device .DTimeout)
       response-sent =
           ap (responseBy byBits params) (response-is responded)
           ∙ response-back params process (device .«DCount_i») (device .SDset) (device .DCommErr) (device .DTimeout) (sizes .0)

@@ -38,6 +38,7 @@ module _ (q : ℕ) (known : outside 1 8 q ≡ false) (calls : List Call) where
       record {
         master = s .master;
         device = s .device;
+        lengths = s .lengths;
         passed-first = release.passed-first q known calls at params past block;
         acknowledged = release.acknowledged q known calls at params past block;
         cycles-first = release.cycles-first q known calls at params past block;

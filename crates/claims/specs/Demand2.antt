@@ -35,7 +35,7 @@ use Rattle.bench.specs.Ports.{newPort, portAt, stepOf}
 use Rattle.bench.specs.Calls.{responseRules, requestRules, clockRules, operatorRules, responseAt, requestAt, clockAt, operatorAt}
 use Rattle.bench.specs.Images.{composeAnswer, composed, buildAnswer, responseOut}
 use Rattle.bench.specs.Shown.{trendOf, binsOf}
-use Rattle.bench.specs.History.{Call, history, never, since, sinceBlock, handsOn, octetsIn, octetsOut, responseAdmitted, requestAdmitted}
+use Rattle.bench.specs.History.{Call, history, never, since, sinceBlock, AllConfigured, handsOn, octetsIn, octetsOut, responseAdmitted, requestAdmitted}
 
 -- the samples that count, "up to the freeze": the first 4,294,967,295
 abbrev pub counted : ℕ → Params → List Happening → List ℕ
@@ -46,6 +46,8 @@ pub record PortHolds (q : ℕ) (p : Port) (at : ℕ) (params : Params) (past : L
   -- "both state machines are exactly those of 000": each end is what the rows make of what happened since the block
   pub master : p .live .master ≡ masters.masterAfter at (params .«FSP_WatchdogTime») past
   pub device : p .live .device ≡ devices.deviceAfter at (params .«FSP_WatchdogTime») past
+  -- 01, 10: of the SPDUs that came since each had the configured length
+  pub lengths : AllConfigured params past
   -- what they come to (01): no release before the first response that passes;
   pub passed-first : p .live .master .released ≡ true → masters.hasPassed at (params .«FSP_WatchdogTime») past ≡ true
   -- after a fault values return only once ChFAck_C followed ChFAckReq_S;
@@ -73,11 +75,11 @@ pub record Sends (q : ℕ) (p : Port) : Type 0 where
   pub request : (process other octets : List ℕ) → isTaken (composeAnswer q p process other octets) ≡ true
       → let sent = take (p .setting .params .SPDUOutLength) (composed q p process other octets) in
       let m = p .live .master in
-      (requestBy byBits (p .setting .params) sent ≡ requestBack (m .MCount) (m .setSD) (m .ChFAckReq))
+      (requestBy byBits (p .setting .params) sent ≡ requestBack (p .setting .params) (m .MCount) (m .setSD) (m .ChFAckReq))
       × (processOf (p .setting .params .«FSP_ProtMode») sent ≡ cond (m .setSD) (replicate (octetsOut p) 0) process)
   pub response : (process out : List ℕ) → isTaken (buildAnswer q p process out) ≡ true → p .live .device .responded ≡ true
       → let d = p .live .device in
-      (responseBy byBits (p .setting .params) (responseOut q p process out) ≡ responseBack (d .«DCount_i») (d .SDset) (d .DCommErr) (d .DTimeout))
+      (responseBy byBits (p .setting .params) (responseOut q p process out) ≡ responseBack (p .setting .params) (d .«DCount_i») (d .SDset) (d .DCommErr) (d .DTimeout))
       × (processOf (p .setting .params .«FSP_ProtMode») (responseOut q p process out) ≡ process)
   -- until the FS-Device has admitted an SPDU its own is zeros alone (R23), and so it is read
   pub no-response : (process out : List ℕ) → isTaken (buildAnswer q p process out) ≡ true → p .live .device .responded ≡ false

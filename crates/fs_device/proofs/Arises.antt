@@ -33,12 +33,14 @@ use Rattle.fs_device.proofs.Delayed as delaying
 -- an SPDU with this MCount and setSD, whose signature and port number hold or not
 abbrev request : ℕ → Bool → Bool → Bool → Request
 request count setSD signature port = record {
+  length = 5;
   MCount = count;
   setSD = setSD;
   ChFAckReq = false;
   «port_holds» = port;
   «signature_holds» = signature;
   «all_zero» = false;
+  unused = 0;
 }
 
 abbrev intact : ℕ → Request
@@ -52,19 +54,22 @@ set count = request count true true true
 
 abbrev asking : ℕ → Request
 asking count = record {
+  length = 5;
   MCount = count;
   setSD = false;
   ChFAckReq = true;
   «port_holds» = true;
   «signature_holds» = true;
   «all_zero» = false;
+  unused = 0;
 }
 
 abbrev zeros : Request
-zeros = record { MCount = 0; setSD = false; ChFAckReq = false; «port_holds» = false; «signature_holds» = false; «all_zero» = true }
+zeros = record { length = 5; MCount = 0; setSD = false; ChFAckReq = false; «port_holds» = false; «signature_holds» = false; «all_zero» = true; unused = 0 }
 
 abbrev response : ℕ → Happening
 response at = happening.Response at (record {
+  length = 5;
   «DCount_i» = 7;
   SDset = false;
   DCommErr = false;
@@ -72,6 +77,7 @@ response at = happening.Response at (record {
   «port_holds» = true;
   «signature_holds» = true;
   «all_zero» = false;
+  unused = 0;
 })
 
 -- what the device then reports, of each bit

@@ -39,6 +39,7 @@ use Rattle.fs_master.proofs.Regulars as regulars
 -- a response of this DCount_i, with SDset, DCommErr, DTimeout, and whether port and signature hold
 abbrev response : ℕ → Bool → Bool → Bool → Bool → Bool → Response
 response count SDset DCommErr DTimeout port signature = record {
+  length = 5;
   «DCount_i» = count;
   SDset = SDset;
   DCommErr = DCommErr;
@@ -46,6 +47,7 @@ response count SDset DCommErr DTimeout port signature = record {
   «port_holds» = port;
   «signature_holds» = signature;
   «all_zero» = false;
+  unused = 0;
 }
 
 abbrev good : ℕ → Response
@@ -69,6 +71,7 @@ damaged count = response count false false false true false
 
 abbrev zeros : Response
 zeros = record {
+  length = 5;
   «DCount_i» = 0;
   SDset = false;
   DCommErr = false;
@@ -76,10 +79,11 @@ zeros = record {
   «port_holds» = false;
   «signature_holds» = false;
   «all_zero» = true;
+  unused = 0;
 }
 
 abbrev request : Request
-request = record { MCount = 1; setSD = false; ChFAckReq = false; «port_holds» = true; «signature_holds» = true; «all_zero» = false }
+request = record { length = 5; MCount = 1; setSD = false; ChFAckReq = false; «port_holds» = true; «signature_holds» = true; «all_zero» = false; unused = 0 }
 
 -- what the control octet then carries: MCount, setSD, ChFAckReq
 pub data Sent : Type 0 where

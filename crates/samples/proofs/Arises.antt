@@ -21,6 +21,7 @@ use Rattle.samples.proofs.Wrap.{delayed-samples}
 -- a response of this DCount_i whose signature holds or not
 abbrev response : ℕ → Bool → Response
 response count signature = record {
+  length = 5;
   «DCount_i» = count;
   SDset = false;
   DCommErr = false;
@@ -28,6 +29,7 @@ response count signature = record {
   «port_holds» = true;
   «signature_holds» = signature;
   «all_zero» = false;
+  unused = 0;
 }
 
 abbrev answers : ℕ → ℕ → Happening

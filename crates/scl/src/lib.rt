@@ -4,9 +4,10 @@ ghost use Rattle.scl.specs.Time.{elapsedOf, expiredOf};
 ghost use Rattle.scl.specs.Counts.{countAfter, inverted};
 ghost use Rattle.scl.specs.Happenings.{readingOf, markNumberOf, checkNumberOf, checkOf, isFailure, markOf};
 
-// What an FS-Master reads of a received SPDU (000 Table 32).
+// What an FS-Master reads of a received SPDU: its length, and its fields (000 Table 32). `unused` is where there would be padding: 0.
 #[repr(C)]
 pub struct Response {
+    pub length: usize,
     pub DCount_i: u8,
     pub SDset: bool,
     pub DCommErr: bool,
@@ -14,17 +15,20 @@ pub struct Response {
     pub port_holds: bool,
     pub signature_holds: bool,
     pub all_zero: bool,
+    pub unused: u8,
 }
 
-// What an FS-Device reads of a received SPDU (000 Table 31).
+// What an FS-Device reads of a received SPDU (000 Table 31), in the same way.
 #[repr(C)]
 pub struct Request {
+    pub length: usize,
     pub MCount: u8,
     pub setSD: bool,
     pub ChFAckReq: bool,
     pub port_holds: bool,
     pub signature_holds: bool,
     pub all_zero: bool,
+    pub unused: u16,
 }
 
 // What a call hands on at an end: process octets of this SPDU, safe values, or nothing because release goes on or because the call was refused.

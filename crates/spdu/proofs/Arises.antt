@@ -36,10 +36,10 @@ p = paramsOf good
 abbrev sent : ℕ → List ℕ
 sent control = spduWith byBits 1 (0x2A ∷ []) 1 control
 
-pub request-back-met : requestBy byBits p (sent (controlOctet 3 true false)) ≡ requestBack 3 true false
+pub request-back-met : requestBy byBits p (sent (controlOctet 3 true false)) ≡ requestBack p 3 true false
 request-back-met = request-back p (0x2A ∷ []) 3 true false refl
 
-pub response-back-met : responseBy byBits p (sent (statusOctet 4 true false true)) ≡ responseBack 4 true false true
+pub response-back-met : responseBy byBits p (sent (statusOctet 4 true false true)) ≡ responseBack p 4 true false true
 response-back-met = response-back p (0x2A ∷ []) 4 true false true refl
 
 -- a signature of 16 bits fits its octets
@@ -192,18 +192,18 @@ pub each-safe :
     ≡ true ∷ true ∷ false ∷ false ∷ false ∷ []
 each-safe = refl
 
--- of an SPDU of another length: count 0, every mark false
+-- of an SPDU of another length: its length, count 0, every mark false
 pub other-length :
     (responseBy byBits p (carrying 0xE7 ++ 0 ∷ [])
-    ≡ record { «DCount_i» = 0; SDset = false; DCommErr = false; DTimeout = false; «port_holds» = false; «signature_holds» = false; «all_zero» = false })
-    × (requestBy byBits p (carrying 0xE3 ++ 0 ∷ []) ≡ record { MCount = 0; setSD = false; ChFAckReq = false; «port_holds» = false; «signature_holds» = false; «all_zero» = false })
+    ≡ record { length = 6; «DCount_i» = 0; SDset = false; DCommErr = false; DTimeout = false; «port_holds» = false; «signature_holds» = false; «all_zero» = false; unused = 0 })
+    × (requestBy byBits p (carrying 0xE3 ++ 0 ∷ []) ≡ record { length = 6; MCount = 0; setSD = false; ChFAckReq = false; «port_holds» = false; «signature_holds» = false; «all_zero» = false; unused = 0 })
 other-length = (refl, refl)
 
 -- ---- what is built is read, in buffers of the right length
 pub record Exchanged (out : List ℕ) : Type 0 where
-  request-arrives : requestBy byBits p (requestBuilt byBits p 3 true false (0x2A ∷ []) out) ≡ requestBack 3 true false
+  request-arrives : requestBy byBits p (requestBuilt byBits p 3 true false (0x2A ∷ []) out) ≡ requestBack p 3 true false
   values-arrive : processOf 1 (requestBuilt byBits p 3 true false (0x2A ∷ []) out) ≡ 0 ∷ []
-  response-arrives : responseBy byBits p (responseBuilt byBits p true 4 true false true (0x2A ∷ []) out) ≡ responseBack 4 true false true
+  response-arrives : responseBy byBits p (responseBuilt byBits p true 4 true false true (0x2A ∷ []) out) ≡ responseBack p 4 true false true
   answered-values : processOf 1 (responseBuilt byBits p true 4 true false true (0x2A ∷ []) out) ≡ 0x2A ∷ []
   zeros-arrive : responseBy byBits p (responseBuilt byBits p false 4 true false true (0x2A ∷ []) out) ≡ zerosBack p
 

@@ -65,27 +65,30 @@ module _ (p : Params) (process : List ℕ) where
   port-back control = eq-eqb (portNumberOf mode (sent control)) (p .«FSP_Port») (read-port byBits mode process (p .«FSP_Port») control)
 
   pub request-back : (mCount : ℕ) (setSD chFAckReq : Bool) → length process + safetyOctets mode ≡ p .SPDUOutLength
-      → requestBy byBits p (sent (controlOctet mCount setSD chFAckReq)) ≡ requestBack mCount setSD chFAckReq
+      → requestBy byBits p (sent (controlOctet mCount setSD chFAckReq)) ≡ requestBack p mCount setSD chFAckReq
   request-back mCount setSD chFAckReq size =
       let control = controlOctet mCount setSD chFAckReq in
       let long = spdu-length byBits mode process (p .«FSP_Port») control ∙ size in
       let read = read-control byBits mode process (p .«FSP_Port») control in
       simp (eq-eqb (length (sent control)) (p .SPDUOutLength) long) (λ i. record {
+        length = long i;
         MCount = (ap countIn read ∙ control-count mCount setSD chFAckReq) i;
         setSD = (ap bit1 read ∙ control-bit1 mCount setSD chFAckReq) i;
         ChFAckReq = (ap bit0 read ∙ control-bit0 mCount setSD chFAckReq) i;
         «port_holds» = port-back control i;
         «signature_holds» = valid-passes mode process (p .«FSP_Port») control i;
         «all_zero» = not-zero control i;
+        unused = 0;
       })
 
   pub response-back : («DCount_i» : ℕ) (sdSet dCommErr dTimeout : Bool) → length process + safetyOctets mode ≡ p .SPDUInLength
-      → responseBy byBits p (sent (statusOctet «DCount_i» sdSet dCommErr dTimeout)) ≡ responseBack «DCount_i» sdSet dCommErr dTimeout
+      → responseBy byBits p (sent (statusOctet «DCount_i» sdSet dCommErr dTimeout)) ≡ responseBack p «DCount_i» sdSet dCommErr dTimeout
   response-back «DCount_i» sdSet dCommErr dTimeout size =
       let status = statusOctet «DCount_i» sdSet dCommErr dTimeout in
       let long = spdu-length byBits mode process (p .«FSP_Port») status ∙ size in
       let read = read-control byBits mode process (p .«FSP_Port») status in
       simp (eq-eqb (length (sent status)) (p .SPDUInLength) long) (λ i. record {
+        length = long i;
         «DCount_i» = (ap countIn read ∙ status-count «DCount_i» sdSet dCommErr dTimeout) i;
         SDset = (ap bit2 read ∙ status-bit2 «DCount_i» sdSet dCommErr dTimeout) i;
         DCommErr = (ap bit1 read ∙ status-bit1 «DCount_i» sdSet dCommErr dTimeout) i;
@@ -93,6 +96,7 @@ module _ (p : Params) (process : List ℕ) where
         «port_holds» = port-back status i;
         «signature_holds» = valid-passes mode process (p .«FSP_Port») status i;
         «all_zero» = not-zero status i;
+        unused = 0;
       })
 
 zeros-all : (n : ℕ) → allZero (replicate n 0) ≡ true
@@ -109,6 +113,7 @@ zeros-back p =
     let none = zeros-all n in
     let read = zero-at zeros none (processOctets mode (length zeros) + 1) in
     simp (eq-eqb (length zeros) n long) (λ i. record {
+      length = long i;
       «DCount_i» = countIn (read i);
       SDset = bit2 (read i);
       DCommErr = bit1 (read i);
@@ -116,4 +121,5 @@ zeros-back p =
       «port_holds» = eqb (zero-at zeros none (processOctets mode (length zeros)) i) (p .«FSP_Port»);
       «signature_holds» = zeros-refused byBits mode zeros none i;
       «all_zero» = none i;
+      unused = 0;
     })

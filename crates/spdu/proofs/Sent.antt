@@ -32,7 +32,7 @@ module _ (p : Params) (process out : List ℕ) where
     size : length (processSent setSD process) + safetyOctets mode ≡ p .SPDUOutLength
     size = let h = held mode (p .SPDUOutLength) (length process) (length out) fits in omega (arith, h .0, h .1, sent-length setSD process)
 
-    pub request-arrives : requestBy byBits p (requestBuilt byBits p mCount setSD chFAckReq process out) ≡ requestBack mCount setSD chFAckReq
+    pub request-arrives : requestBy byBits p (requestBuilt byBits p mCount setSD chFAckReq process out) ≡ requestBack p mCount setSD chFAckReq
     request-arrives = ap (requestBy byBits p) written ∙ request-back p (processSent setSD process) mCount setSD chFAckReq size
 
     -- R25: the values as lent where setSD is 0, zeros where it is 1
@@ -53,7 +53,7 @@ module _ (p : Params) (process out : List ℕ) where
     responds : answer true ≡ spduWith byBits mode process (p .«FSP_Port») status
     responds = ap (λ (b : Bool). cond b (spduWith byBits mode process (p .«FSP_Port») status) out) fits
 
-    pub response-arrives : responseBy byBits p (responseBuilt byBits p true «DCount_i» sdSet dCommErr dTimeout process out) ≡ responseBack «DCount_i» sdSet dCommErr dTimeout
+    pub response-arrives : responseBy byBits p (responseBuilt byBits p true «DCount_i» sdSet dCommErr dTimeout process out) ≡ responseBack p «DCount_i» sdSet dCommErr dTimeout
     response-arrives = ap (responseBy byBits p) responds ∙ response-back p process «DCount_i» sdSet dCommErr dTimeout (omega (arith, lengths .0, lengths .1))
 
     -- R25: the values as lent, in every row

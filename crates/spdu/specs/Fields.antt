@@ -35,6 +35,7 @@ responseFields sign p s =
     let mode = p .«FSP_ProtMode» in
     let status = controlOf mode s in
     record {
+      length = length s;
       «DCount_i» = countIn status;
       SDset = bit2 status;
       DCommErr = bit1 status;
@@ -42,13 +43,15 @@ responseFields sign p s =
       «port_holds» = eqb (portNumberOf mode s) (p .«FSP_Port»);
       «signature_holds» = signatureHolds sign mode s;
       «all_zero» = allZero s;
+      unused = 0;
     }
 
--- of an SPDU of SPDUInLength octets; of another length: count 0, every mark false
+-- of an SPDU of SPDUInLength octets; of another length: its length, count 0, every mark false
 abbrev pub responseBy : (ℕ → List ℕ → ℕ) → Params → List ℕ → Response
 responseBy sign p s =
     cond (eqb (length s) (p .SPDUInLength)) (responseFields sign p s)
     (record {
+      length = length s;
       «DCount_i» = 0;
       SDset = false;
       DCommErr = false;
@@ -56,6 +59,7 @@ responseBy sign p s =
       «port_holds» = false;
       «signature_holds» = false;
       «all_zero» = false;
+      unused = 0;
     })
 
 -- what the FS-Device reads (Table 31), whatever the length
@@ -64,12 +68,14 @@ requestFields sign p s =
     let mode = p .«FSP_ProtMode» in
     let control = controlOf mode s in
     record {
+      length = length s;
       MCount = countIn control;
       setSD = bit1 control;
       ChFAckReq = bit0 control;
       «port_holds» = eqb (portNumberOf mode s) (p .«FSP_Port»);
       «signature_holds» = signatureHolds sign mode s;
       «all_zero» = allZero s;
+      unused = 0;
     }
 
 -- of an SPDU of SPDUOutLength octets
@@ -77,10 +83,12 @@ abbrev pub requestBy : (ℕ → List ℕ → ℕ) → Params → List ℕ → Re
 requestBy sign p s =
     cond (eqb (length s) (p .SPDUOutLength)) (requestFields sign p s)
     (record {
+      length = length s;
       MCount = 0;
       setSD = false;
       ChFAckReq = false;
       «port_holds» = false;
       «signature_holds» = false;
       «all_zero» = false;
+      unused = 0;
     })

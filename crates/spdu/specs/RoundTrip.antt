@@ -7,18 +7,21 @@ use Rattle.block.specs.declared.Params.{Params}
 use Rattle.scl.specs.declared.Request.{Request}
 use Rattle.scl.specs.declared.Response.{Response}
 
-abbrev pub requestBack : ℕ → Bool → Bool → Request
-requestBack mCount setSD chFAckReq = record {
+abbrev pub requestBack : Params → ℕ → Bool → Bool → Request
+requestBack p mCount setSD chFAckReq = record {
+  length = p .SPDUOutLength;
   MCount = mCount % 8;
   setSD = setSD;
   ChFAckReq = chFAckReq;
   «port_holds» = true;
   «signature_holds» = true;
   «all_zero» = false;
+  unused = 0;
 }
 
-abbrev pub responseBack : ℕ → Bool → Bool → Bool → Response
-responseBack «DCount_i» sdSet dCommErr dTimeout = record {
+abbrev pub responseBack : Params → ℕ → Bool → Bool → Bool → Response
+responseBack p «DCount_i» sdSet dCommErr dTimeout = record {
+  length = p .SPDUInLength;
   «DCount_i» = «DCount_i» % 8;
   SDset = sdSet;
   DCommErr = dCommErr;
@@ -26,11 +29,13 @@ responseBack «DCount_i» sdSet dCommErr dTimeout = record {
   «port_holds» = true;
   «signature_holds» = true;
   «all_zero» = false;
+  unused = 0;
 }
 
 -- no signature is 0, so that of zeros does not hold
 abbrev pub zerosBack : Params → Response
 zerosBack p = record {
+  length = p .SPDUInLength;
   «DCount_i» = 0;
   SDset = false;
   DCommErr = false;
@@ -38,4 +43,5 @@ zerosBack p = record {
   «port_holds» = eqb 0 (p .«FSP_Port»);
   «signature_holds» = false;
   «all_zero» = true;
+  unused = 0;
 }

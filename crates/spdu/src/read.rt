@@ -157,6 +157,7 @@ pub fn response_fields_by(short: &[u16; 256], long: &[u32; 256], p: Params, s: &
     let t = trailer_by(short, long, p.FSP_ProtMode, s);
     let status = t.control;
     Response {
+        length: s.len(),
         DCount_i: status / 32 % 8,
         SDset: status / 4 % 2 == 1,
         DCommErr: status / 2 % 2 == 1,
@@ -164,6 +165,7 @@ pub fn response_fields_by(short: &[u16; 256], long: &[u32; 256], p: Params, s: &
         port_holds: t.port == p.FSP_Port,
         signature_holds: t.signature_holds,
         all_zero: all_zero(s),
+        unused: 0,
     }
 }
 
@@ -174,6 +176,7 @@ pub fn read_response_by(short: &[u16; 256], long: &[u32; 256], p: Params, s: &[u
         response_fields_by(short, long, p, s)
     } else {
         Response {
+            length: s.len(),
             DCount_i: 0,
             SDset: false,
             DCommErr: false,
@@ -181,6 +184,7 @@ pub fn read_response_by(short: &[u16; 256], long: &[u32; 256], p: Params, s: &[u
             port_holds: false,
             signature_holds: false,
             all_zero: false,
+            unused: 0,
         }
     }
 }
@@ -192,12 +196,14 @@ pub fn request_fields_by(short: &[u16; 256], long: &[u32; 256], p: Params, s: &[
     let t = trailer_by(short, long, p.FSP_ProtMode, s);
     let control = t.control;
     Request {
+        length: s.len(),
         MCount: control / 32 % 8,
         setSD: control / 2 % 2 == 1,
         ChFAckReq: control % 2 == 1,
         port_holds: t.port == p.FSP_Port,
         signature_holds: t.signature_holds,
         all_zero: all_zero(s),
+        unused: 0,
     }
 }
 
@@ -208,12 +214,14 @@ pub fn read_request_by(short: &[u16; 256], long: &[u32; 256], p: Params, s: &[u8
         request_fields_by(short, long, p, s)
     } else {
         Request {
+            length: s.len(),
             MCount: 0,
             setSD: false,
             ChFAckReq: false,
             port_holds: false,
             signature_holds: false,
             all_zero: false,
+            unused: 0,
         }
     }
 }

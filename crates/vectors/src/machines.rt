@@ -72,18 +72,21 @@ fn shown(name: &[u8], at: u32, ends: Ends) {
 // What the FS-Master sends, damaged or not.
 fn request(m: Master, damaged: bool) -> Request {
     Request {
+        length: 8,
         MCount: m.MCount,
         setSD: m.setSD,
         ChFAckReq: m.ChFAckReq,
         port_holds: true,
         signature_holds: !damaged,
         all_zero: false,
+        unused: 0,
     }
 }
 
 // What the FS-Device answers, damaged or not: zeros until it has prepared a response.
 fn response(d: Device, damaged: bool) -> Response {
     Response {
+        length: 8,
         DCount_i: d.DCount_i,
         SDset: d.SDset,
         DCommErr: d.DCommErr,
@@ -91,6 +94,7 @@ fn response(d: Device, damaged: bool) -> Response {
         port_holds: true,
         signature_holds: !damaged,
         all_zero: !d.responded,
+        unused: 0,
     }
 }
 
