@@ -33,7 +33,7 @@ use Rattle.samples.specs.Samples.{samples, histogramAfter}
 use Rattle.samples.proofs.Counted.{samples-within, samples-held, tallied-parts}
 use Rattle.bench.specs.declared.Port.{Port}
 use Rattle.bench.specs.Ports.{histogramOf, newPort, acceptedPort, portAt, turnOf, stored, said, stepOf}
-use Rattle.bench.specs.History.{Call, SetParameters, ReceiveResponse, ReceiveRequest, Clock, Operator, WithoutReading, addressed, rulesOf, answerOf, after, history, Since, never, since, goesOn, extended, sinceBlock, Configured, nothing-came, came, MatchesSince, Matches}
+use Rattle.bench.specs.History.{Call, SetParameters, ReceiveResponse, ReceiveRequest, Clock, Operator, WithoutReading, addressed, rulesOf, answerOf, after, history, Since, never, since, goesOn, extended, sinceBlock, ConfiguredLength, nothing-came, came, MatchesSince, Matches}
 use Rattle.bench.proofs.Index.{new-at}
 use Rattle.bench.proofs.Answers.{answer-is, exactly, refused-same}
 use Rattle.bench.proofs.AtPort.{eight, takenAt, taken-at, other-at}
@@ -52,7 +52,7 @@ module _ (p : Port) (at : ℕ) (params : Params) (past : List Happening) (s : Ma
       ∙ ap (λ (k : Histogram). stepped k (p .live .master) (p .setting .params .«FSP_WatchdogTime») h) (s .histogram)
       ∙ ap₂ (λ (m : Master) (w : ℕ). stepped (histogramAfter at (params .«FSP_WatchdogTime») past) m w h) (s .master) watchdog-is
 
-  step-matches : Configured params h → MatchesSince (stepOf p h .port) at params (h ∷ past)
+  step-matches : ConfiguredLength params h → MatchesSince (stepOf p h .port) at params (h ∷ past)
   unfolding stepOf stored said turnOf masterAfter deviceAfter
   step-matches length-is = record {
     running = s .running;
@@ -68,33 +68,30 @@ module _ (p : Port) (at : ℕ) (params : Params) (past : List Happening) (s : Ma
 
 -- ---- one call that is not refused
 
-goes-matches : (p : Port) (h : Params → Happening) (s : Since) → p .setting .running ≡ true → Configured (p .setting .params) (h (p .setting .params)) → Matches p s → Matches (stepOf p (h (p .setting .params)) .port) (goesOn s h)
+goes-matches : (p : Port) (h : Params → Happening) (s : Since) → p .setting .running ≡ true → ConfiguredLength (p .setting .params) (h (p .setting .params)) → Matches p s → Matches (stepOf p (h (p .setting .params)) .port) (goesOn s h)
 unfolding Matches goesOn newPort
 goes-matches p h never r l z = let e : true ≡ false = sym r ∙ ap (λ (q : Port). q .setting .running) z in no e
 goes-matches p h (since at params past) r l z =
-    rw (ap h (z .parameters)) (step-matches p at params past z (h params) (subst (λ (q : Params). Configured q (h q)) (z .parameters) l))
+    rw (ap h (z .parameters)) (step-matches p at params past z (h params) (subst (λ (q : Params). ConfiguredLength q (h q)) (z .parameters) l))
 
 -- an SPDU that 10 does not refuse, read
-response-length : (p : Params) (at : ℕ) (spdu : List ℕ) → not (eqb (length spdu) (p .SPDUInLength)) ≡ false → Configured p (happening.Response at (responseBy byBits p spdu))
-unfolding Configured
-response-length p at spdu e =
-    let b = eqb (length spdu) (p .SPDUInLength) in
-    let is : length spdu ≡ p .SPDUInLength = eqb-true (length spdu) (p .SPDUInLength) (not-false b e) in
-    cond-case (λ (f : Response). f .length ≡ p .SPDUInLength) b (λ _. is) (λ _. is)
+not-other : (n m : ℕ) → not (eqb n m) ≡ false → n ≡ m
+not-other n m e = eqb-true n m (not-false (eqb n m) e)
 
-request-length : (p : Params) (at : ℕ) (spdu : List ℕ) → not (eqb (length spdu) (p .SPDUOutLength)) ≡ false → Configured p (happening.Request at (requestBy byBits p spdu))
-unfolding Configured
-request-length p at spdu e =
-    let b = eqb (length spdu) (p .SPDUOutLength) in
-    let is : length spdu ≡ p .SPDUOutLength = eqb-true (length spdu) (p .SPDUOutLength) (not-false b e) in
-    cond-case (λ (q : Request). q .length ≡ p .SPDUOutLength) b (λ _. is) (λ _. is)
+response-length : (p : Params) (at : ℕ) (spdu : List ℕ) → length spdu ≡ p .SPDUInLength → ConfiguredLength p (happening.Response at (responseBy byBits p spdu))
+unfolding ConfiguredLength
+response-length p at spdu is = cond-case (λ (f : Response). f .length ≡ p .SPDUInLength) (eqb (length spdu) (p .SPDUInLength)) (λ _. is) (λ _. is)
+
+request-length : (p : Params) (at : ℕ) (spdu : List ℕ) → length spdu ≡ p .SPDUOutLength → ConfiguredLength p (happening.Request at (requestBy byBits p spdu))
+unfolding ConfiguredLength
+request-length p at spdu is = cond-case (λ (q : Request). q .length ≡ p .SPDUOutLength) (eqb (length spdu) (p .SPDUOutLength)) (λ _. is) (λ _. is)
 
 small-watchdog : (octets : List ℕ) (port : ℕ) (p : Port) (at : ℕ) → Kept (rulesOf p (SetParameters port at octets)) → paramsOf octets .«FSP_WatchdogTime» ≤ 65535
 unfolding rulesOf
 small-watchdog octets port p at k = let w = paramsOf octets .«FSP_WatchdogTime» in leb-true w 65535 (and-right (leb 1 w) (leb w 65535) (not-false (leb 1 w && leb w 65535) (k .each 14)))
 
 taken-matches : (p : Port) (s : Since) (c : Call) → Kept (rulesOf p c) → Matches p s → Matches (takenAt p c) (extended s c)
-unfolding takenAt extended rulesOf Matches Configured acceptedPort masterAfter deviceAfter samples histogramAfter
+unfolding takenAt extended rulesOf Matches ConfiguredLength acceptedPort masterAfter deviceAfter samples histogramAfter
 taken-matches p s (SetParameters port at octets) k z = record {
   running = refl;
   parameters = refl;
@@ -106,8 +103,8 @@ taken-matches p s (SetParameters port at octets) k z = record {
   within = none;
   small = small-watchdog octets port p at k;
 }
-taken-matches p s (ReceiveResponse port at spdu safe) k z = goes-matches p (λ q. happening.Response at (responseBy byBits q spdu)) s (not-false (p .setting .running) (k .each 1)) (response-length (p .setting .params) at spdu (k .each 2)) z
-taken-matches p s (ReceiveRequest port at spdu safe) k z = goes-matches p (λ q. happening.Request at (requestBy byBits q spdu)) s (not-false (p .setting .running) (k .each 1)) (request-length (p .setting .params) at spdu (k .each 2)) z
+taken-matches p s (ReceiveResponse port at spdu safe) k z = goes-matches p (λ q. happening.Response at (responseBy byBits q spdu)) s (not-false (p .setting .running) (k .each 1)) (response-length (p .setting .params) at spdu (not-other (length spdu) (p .setting .params .SPDUInLength) (k .each 2))) z
+taken-matches p s (ReceiveRequest port at spdu safe) k z = goes-matches p (λ q. happening.Request at (requestBy byBits q spdu)) s (not-false (p .setting .running) (k .each 1)) (request-length (p .setting .params) at spdu (not-other (length spdu) (p .setting .params .SPDUOutLength) (k .each 2))) z
 taken-matches p s (Clock port at safeIn safeOut) k z = goes-matches p (λ q. happening.Clock at) s (not-false (p .setting .running) (k .each 1)) refl z
 taken-matches p s (Operator port at «setSD_C» «ChFAck_C» safe) k z = goes-matches p (λ q. happening.Operator at «setSD_C» «ChFAck_C») s (not-false (p .setting .running) (k .each 1)) refl z
 taken-matches p s (WithoutReading port act) k z = z

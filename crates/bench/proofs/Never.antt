@@ -133,15 +133,15 @@ watched-bounded : (d : Device) (w at : ℕ) → Bounded d → Bounded (devices.w
 unfolding devices.watched
 watched-bounded d w at b = acted-bounded d (table40.watchdogRow d w at) at false false b
 
-taken-bounded : (d : Device) (q : Request) → q .MCount ≤ 7 → Bounded d → Bounded (table40.admitted d q)
+admitted-bounded : (d : Device) (q : Request) → q .MCount ≤ 7 → Bounded d → Bounded (table40.admitted d q)
 unfolding table40.admitted
-taken-bounded d q h b = record { admitted-count = h; mirrored = b .mirrored; cycles = b .cycles; errors = b .errors; timeouts = b .timeouts }
+admitted-bounded d q h b = record { admitted-count = h; mirrored = b .mirrored; cycles = b .cycles; errors = b .errors; timeouts = b .timeouts }
 
 received-bounded : (d : Device) (r : Row) (at : ℕ) (q : Request) → q .MCount ≤ 7 → Bounded d → Bounded (devices.received d r at q .device)
 unfolding devices.received devices.arrived devices.quiet
 received-bounded d r at q h b =
     cond-case (λ (o : Outcome). Bounded (o .device)) (table40.isAdmitted d q)
-    (λ _. acted-bounded (table40.admitted d q) (table40.arrivalRow d (isFailure (table40.checked d q))) at (q .setSD) (isFailure (table40.checked d q)) (taken-bounded d q h b))
+    (λ _. acted-bounded (table40.admitted d q) (table40.arrivalRow d (isFailure (table40.checked d q))) at (q .setSD) (isFailure (table40.checked d q)) (admitted-bounded d q h b))
     (λ _. b)
 
 step-bounded : (d : Device) (w : ℕ) (h : Happening) → Read h → Bounded d → Bounded (devices.stepOf d w h .device)
@@ -160,7 +160,7 @@ module _ (at w : ℕ) where
 -- ---- since the last accepted block
 
 record Sound (q : ℕ) (params : Params) (past : List Happening) : Type 0 where
-  taken-block : Accepted q params
+  accepted-block : Accepted q params
   all-read : AllRead past
 
 Sounds : ℕ → Since → Type 0
@@ -170,10 +170,10 @@ Sounds q (since at params past) = Sound q params past
 goes-sound : (q : ℕ) (s : Since) (h : Params → Happening) → ((params : Params) → Read (h params)) → Sounds q s → Sounds q (goesOn s h)
 unfolding Sounds goesOn
 goes-sound q never h r z = refl
-goes-sound q (since at params past) h r z = record { taken-block = z .taken-block; all-read = more (r params) (z .all-read) }
+goes-sound q (since at params past) h r z = record { accepted-block = z .accepted-block; all-read = more (r params) (z .all-read) }
 
 block-sound : (octets : List ℕ) (port : ℕ) → ((i : ℕ) → getD octets i 0 < 256) → isTaken (judged octets port .answer) ≡ true → Sound port (paramsOf octets) []
-block-sound octets port o t = record { taken-block = rw (taken-params octets port t) at (accepted octets port o t); all-read = none }
+block-sound octets port o t = record { accepted-block = rw (taken-params octets port t) at (accepted octets port o t); all-read = none }
 
 extended-sound : (q : ℕ) (past : List Call) (c : Call) (s : Since) → addressed c ≡ q → isTaken (answerOf (history past) c) ≡ true → ((i : ℕ) → getD (blockIn c) i 0 < 256) → Sounds q s → Sounds q (extended s c)
 unfolding extended blockIn Sounds addressed answerOf placed Read
@@ -203,7 +203,7 @@ arises q p (since at params past) r z y =
     let b = bounded-always at w (y .all-read) in
     let k = previous-is at w past in
     record {
-      parameters = rw (z .parameters) (y .taken-block);
+      parameters = rw (z .parameters) (y .accepted-block);
       master = rw (z .master) (always-held at w past);
       count = rw (z .master) (count-always at w past);
       carried = rw (z .master) (rw (k .carried-is) (carried-always at w (y .all-read)));

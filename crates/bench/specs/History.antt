@@ -164,20 +164,20 @@ sinceBlock q (c ∷ past) =
 -- ---- What a port holds
 
 -- 10 refuses an SPDU of another length than is configured: one that came has that length
-unfoldable pub Configured : Params → Happening → Type 0
-Configured p (happening.Response at f) = f .length ≡ p .SPDUInLength
-Configured p (happening.Request at q) = q .length ≡ p .SPDUOutLength
-Configured p (happening.Clock at) = true ≡ true
-Configured p (happening.Operator at «setSD_C» «ChFAck_C») = true ≡ true
+unfoldable pub ConfiguredLength : Params → Happening → Type 0
+ConfiguredLength p (happening.Response at f) = f .length ≡ p .SPDUInLength
+ConfiguredLength p (happening.Request at q) = q .length ≡ p .SPDUOutLength
+ConfiguredLength p (happening.Clock at) = true ≡ true
+ConfiguredLength p (happening.Operator at «setSD_C» «ChFAck_C») = true ≡ true
 
-pub data AllConfigured (p : Params) : List Happening → Type 0 where
-  nothing-came : AllConfigured p []
-  came : {h : Happening} {past : List Happening} → Configured p h → AllConfigured p past → AllConfigured p (h ∷ past)
+pub data ConfiguredLengths (p : Params) : List Happening → Type 0 where
+  nothing-came : ConfiguredLengths p []
+  came : {h : Happening} {past : List Happening} → ConfiguredLength p h → ConfiguredLengths p past → ConfiguredLengths p (h ∷ past)
 
 pub record MatchesSince (p : Port) (at : ℕ) (params : Params) (past : List Happening) : Type 0 where
   pub running : p .setting .running ≡ true
   pub parameters : p .setting .params ≡ params
-  pub lengths : AllConfigured params past
+  pub lengths : ConfiguredLengths params past
   pub master : p .live .master ≡ masterAfter at (params .«FSP_WatchdogTime») past
   pub device : p .live .device ≡ deviceSpecs.deviceAfter at (params .«FSP_WatchdogTime») past
   pub histogram : histogramOf p ≡ histogramAfter at (params .«FSP_WatchdogTime») past

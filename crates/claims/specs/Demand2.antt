@@ -35,7 +35,7 @@ use Rattle.bench.specs.Ports.{newPort, portAt, stepOf}
 use Rattle.bench.specs.Calls.{responseRules, requestRules, clockRules, operatorRules, responseAt, requestAt, clockAt, operatorAt}
 use Rattle.bench.specs.Images.{composeAnswer, composed, buildAnswer, responseOut}
 use Rattle.bench.specs.Shown.{trendOf, binsOf}
-use Rattle.bench.specs.History.{Call, history, never, since, sinceBlock, AllConfigured, handsOn, octetsIn, octetsOut, responseAdmitted, requestAdmitted}
+use Rattle.bench.specs.History.{Call, history, never, since, sinceBlock, ConfiguredLengths, handsOn, octetsIn, octetsOut, responseAdmitted, requestAdmitted}
 
 -- the samples that count, "up to the freeze": the first 4,294,967,295
 abbrev pub counted : ℕ → Params → List Happening → List ℕ
@@ -47,7 +47,7 @@ pub record PortHolds (q : ℕ) (p : Port) (at : ℕ) (params : Params) (past : L
   pub master : p .live .master ≡ masters.masterAfter at (params .«FSP_WatchdogTime») past
   pub device : p .live .device ≡ devices.deviceAfter at (params .«FSP_WatchdogTime») past
   -- 01, 10: of the SPDUs that came since each had the configured length
-  pub lengths : AllConfigured params past
+  pub lengths : ConfiguredLengths params past
   -- what they come to (01): no release before the first response that passes;
   pub passed-first : p .live .master .released ≡ true → masters.hasPassed at (params .«FSP_WatchdogTime») past ≡ true
   -- after a fault values return only once ChFAck_C followed ChFAckReq_S;

@@ -199,6 +199,10 @@ pub other-length :
     × (requestBy byBits p (carrying 0xE3 ++ 0 ∷ []) ≡ record { length = 6; MCount = 0; setSD = false; ChFAckReq = false; «port_holds» = false; «signature_holds» = false; «all_zero» = false; unused = 0 })
 other-length = (refl, refl)
 
+-- and the length among the fields is the one that was read, not the configured one
+pub length-read : (responseFields byBits p (carrying 0xE7 ++ 0 ∷ []) .length ≡ 6) × (requestFields byBits p (carrying 0xE3 ++ 0 ∷ []) .length ≡ 6)
+length-read = (refl, refl)
+
 -- ---- what is built is read, in buffers of the right length
 pub record Exchanged (out : List ℕ) : Type 0 where
   request-arrives : requestBy byBits p (requestBuilt byBits p 3 true false (0x2A ∷ []) out) ≡ requestBack p 3 true false
