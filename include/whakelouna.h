@@ -30,15 +30,16 @@ enum whakelouna_answer {
     WHAKELOUNA_RECORD
 };
 
-// The signatures of 000 Annex D. `_by` takes a table that the caller holds; `whakelouna_table16` and `_table32` write the right one.
+// The signatures of 000 Annex D. `_by` takes a table that the caller holds; `whakelouna_table16` and `_table32` write the right one. The long
+// signature takes half an octet at a time, so that its table has 16 entries.
 void whakelouna_table16(uint16_t table[256]);
-void whakelouna_table32(uint32_t table[256]);
+void whakelouna_table32(uint32_t table[16]);
 uint16_t whakelouna_step16(uint16_t reg, uint8_t octet);
 uint32_t whakelouna_step32(uint32_t reg, uint8_t octet);
 uint16_t whakelouna_signature16(uint16_t seed, const uint8_t *octets, size_t length);
 uint32_t whakelouna_signature32(uint32_t seed, const uint8_t *octets, size_t length);
 uint16_t whakelouna_signature16_by(const uint16_t table[256], uint16_t seed, const uint8_t *octets, size_t length);
-uint32_t whakelouna_signature32_by(const uint32_t table[256], uint32_t seed, const uint8_t *octets, size_t length);
+uint32_t whakelouna_signature32_by(const uint32_t table[16], uint32_t seed, const uint8_t *octets, size_t length);
 
 // The response histogram of a port: samples in ms by 32 bins of the watchdog time.
 struct whakelouna_histogram {
@@ -140,14 +141,14 @@ struct whakelouna_request {
 
 // Each takes both signature tables. A build fills `out`, which overlaps with nothing else that is passed, and returns 0; where a length is
 // wrong it writes nothing and returns 7.
-struct whakelouna_response whakelouna_read_response_by(const uint16_t short_table[256], const uint32_t long_table[256],
+struct whakelouna_response whakelouna_read_response_by(const uint16_t short_table[256], const uint32_t long_table[16],
     struct whakelouna_params params, const uint8_t *octets, size_t length);
-struct whakelouna_request whakelouna_read_request_by(const uint16_t short_table[256], const uint32_t long_table[256],
+struct whakelouna_request whakelouna_read_request_by(const uint16_t short_table[256], const uint32_t long_table[16],
     struct whakelouna_params params, const uint8_t *octets, size_t length);
-uint8_t whakelouna_build_request_by(const uint16_t short_table[256], const uint32_t long_table[256],
+uint8_t whakelouna_build_request_by(const uint16_t short_table[256], const uint32_t long_table[16],
     struct whakelouna_params params, uint8_t MCount, bool setSD, bool ChFAckReq,
     const uint8_t *process, size_t process_length, uint8_t *out, size_t out_length);
-uint8_t whakelouna_build_response_by(const uint16_t short_table[256], const uint32_t long_table[256],
+uint8_t whakelouna_build_response_by(const uint16_t short_table[256], const uint32_t long_table[16],
     struct whakelouna_params params, bool responded, uint8_t DCount_i, bool SDset, bool DCommErr, bool DTimeout,
     const uint8_t *process, size_t process_length, uint8_t *out, size_t out_length);
 

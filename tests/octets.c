@@ -41,7 +41,7 @@ int main(void)
     static const uint8_t zeros[32];
     static uint8_t out[1152];
     static uint16_t short_table[256];
-    static uint32_t long_table[256];
+    static uint32_t long_table[16];
     whakelouna_table16(short_table);
     whakelouna_table32(long_table);
     struct whakelouna_bench bench = whakelouna_new_bench();

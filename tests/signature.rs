@@ -15,50 +15,54 @@ use model::signature::{
 };
 use random::Random;
 
-type Table = [u32; 256];
-
 /// The library's functions of one width. Numbers are widened to 32 bits, so that each test is
 /// written once for both widths.
 struct Width {
     generator: Generator,
-    /// The table between two entries that the library must leave alone. Each of the 258 entries
-    /// holds the given number before the library fills the table.
-    guarded_table: fn(u32) -> [u32; 258],
+    /// The bits of a look-up, which divide an octet's.
+    index_bits: usize,
+    /// The table between two entries that the library must leave alone. Each entry holds the given
+    /// number before the library fills the table.
+    guarded_table: fn(u32) -> Vec<u32>,
     step: fn(u32, u8) -> u32,
     plain: fn(u32, &[u8]) -> u32,
-    lent: fn(&Table, u32, &[u8]) -> u32,
+    lent: fn(&[u32], u32, &[u8]) -> u32,
 }
 
 const WIDTHS: [Width; 2] = [
     Width {
         generator: SHORT,
+        index_bits: 8,
         guarded_table: guarded_table16,
         step: |register, octet| library::step16(register as u16, octet).into(),
         plain: |seed, octets| library::signature16(seed as u16, octets).into(),
         lent: |table, seed, octets| {
-            let table = table.map(|entry| entry as u16);
+            let table: [u16; 256] = std::array::from_fn(|index| table[index] as u16);
             library::signature16_by(&table, seed as u16, octets).into()
         },
     },
     Width {
         generator: LONG,
+        index_bits: 4,
         guarded_table: guarded_table32,
         step: library::step32,
         plain: library::signature32,
-        lent: library::signature32_by,
+        lent: |table, seed, octets| {
+            library::signature32_by(table.try_into().unwrap(), seed, octets)
+        },
     },
 ];
 
-fn guarded_table16(before: u32) -> [u32; 258] {
+fn guarded_table16(before: u32) -> Vec<u32> {
     let mut entries = [before as u16; 258];
     library::table16((&mut entries[1..257]).try_into().unwrap());
-    entries.map(u32::from)
+    entries.map(u32::from).to_vec()
 }
 
-fn guarded_table32(before: u32) -> [u32; 258] {
-    let mut entries = [before; 258];
-    library::table32((&mut entries[1..257]).try_into().unwrap());
-    entries
+fn guarded_table32(before: u32) -> Vec<u32> {
+    let mut entries = [before; 18];
+    library::table32((&mut entries[1..17]).try_into().unwrap());
+    entries.to_vec()
 }
 
 impl Width {
@@ -78,21 +82,29 @@ impl Width {
         [0, 1, self.ones(), self.register(random)]
     }
 
-    fn table(&self) -> Table {
-        (self.guarded_table)(0)[1..257].try_into().unwrap()
+    fn entries(&self) -> usize {
+        1 << self.index_bits
     }
 
-    fn wrong_table(&self, random: &mut Random) -> Table {
-        std::array::from_fn(|_| self.register(random))
+    fn table(&self) -> Vec<u32> {
+        (self.guarded_table)(0)[1..=self.entries()].to_vec()
+    }
+
+    fn wrong_table(&self, random: &mut Random) -> Vec<u32> {
+        (0..self.entries()).map(|_| self.register(random)).collect()
     }
 }
 
-/// 000 Figures D.4 and D.6, over any table.
-fn by_lookup(width: &Width, table: &Table, seed: u32, octets: &[u8]) -> u32 {
+/// 000 Figures D.4 and D.6, over any table, with the bits that a look-up has.
+fn by_lookup(width: &Width, table: &[u32], seed: u32, octets: &[u8]) -> u32 {
+    let bits = width.index_bits;
     let mut register = seed;
     for &octet in octets {
-        let index = (register >> (width.bits() - 8) ^ u32::from(octet)) & 0xff;
-        register = table[index as usize] ^ (register << 8 & width.ones());
+        for place in (0..8).step_by(bits).rev() {
+            let data = u32::from(octet) >> place;
+            let index = (register >> (width.bits() - bits) ^ data) as usize % width.entries();
+            register = table[index] ^ (register << bits & width.ones());
+        }
     }
     register
 }
@@ -143,7 +155,7 @@ impl Message {
 /// The tests of one width.
 struct Test<'a> {
     width: &'a Width,
-    table: Table,
+    table: Vec<u32>,
     comparisons: &'a mut Comparisons,
     random: &'a mut Random,
 }
@@ -178,16 +190,15 @@ impl Test<'_> {
         let bits = self.width.bits();
         for before in [0, self.width.ones()] {
             let guarded = (self.width.guarded_table)(before);
-            for place in [0, 257] {
+            for place in [0, guarded.len() - 1] {
                 self.comparisons.compare(before, guarded[place], || {
                     format!("guard at {place} of the table, {bits} bits")
                 });
             }
-            for octet in 0..=u8::MAX {
-                let expected = signature(self.width.generator, 0, &[octet]);
-                let found = guarded[1 + usize::from(octet)];
-                self.comparisons.compare(expected, found, || {
-                    format!("table entry {octet}, {bits} bits, before {before:#x}")
+            for index in 0..self.width.entries() {
+                let expected = signature(self.width.generator, 0, &[index as u8]);
+                self.comparisons.compare(expected, guarded[1 + index], || {
+                    format!("table entry {index}, {bits} bits, before {before:#x}")
                 });
             }
         }

@@ -33,7 +33,7 @@ pub struct Trend {
 // Rattle's `&[u8]` is a pointer and a length here; a reference to an array is a pointer alone.
 extern "C" {
     fn whakelouna_table16(table: &mut [u16; 256]);
-    fn whakelouna_table32(table: &mut [u32; 256]);
+    fn whakelouna_table32(table: &mut [u32; 16]);
     fn whakelouna_step16(register: u16, octet: u8) -> u16;
     fn whakelouna_step32(register: u32, octet: u8) -> u32;
     fn whakelouna_signature16(seed: u16, octets: *const u8, length: usize) -> u16;
@@ -45,7 +45,7 @@ extern "C" {
         length: usize,
     ) -> u16;
     fn whakelouna_signature32_by(
-        table: &[u32; 256],
+        table: &[u32; 16],
         seed: u32,
         octets: *const u8,
         length: usize,
@@ -58,21 +58,21 @@ extern "C" {
     fn whakelouna_judge_block(octets: *const u8, length: usize, port: u8) -> BlockAnswer;
     fn whakelouna_read_request_by(
         short: &[u16; 256],
-        long: &[u32; 256],
+        long: &[u32; 16],
         params: Params,
         octets: *const u8,
         length: usize,
     ) -> Request;
     fn whakelouna_read_response_by(
         short: &[u16; 256],
-        long: &[u32; 256],
+        long: &[u32; 16],
         params: Params,
         octets: *const u8,
         length: usize,
     ) -> Response;
     fn whakelouna_build_request_by(
         short: &[u16; 256],
-        long: &[u32; 256],
+        long: &[u32; 16],
         params: Params,
         mcount: u8,
         set_sd: bool,
@@ -84,7 +84,7 @@ extern "C" {
     ) -> u8;
     fn whakelouna_build_response_by(
         short: &[u16; 256],
-        long: &[u32; 256],
+        long: &[u32; 16],
         params: Params,
         responded: bool,
         dcount_i: u8,
@@ -473,7 +473,7 @@ pub fn table16(table: &mut [u16; 256]) {
     unsafe { whakelouna_table16(table) }
 }
 
-pub fn table32(table: &mut [u32; 256]) {
+pub fn table32(table: &mut [u32; 16]) {
     unsafe { whakelouna_table32(table) }
 }
 
@@ -497,7 +497,7 @@ pub fn signature16_by(table: &[u16; 256], seed: u16, octets: &[u8]) -> u16 {
     unsafe { whakelouna_signature16_by(table, seed, octets.as_ptr(), octets.len()) }
 }
 
-pub fn signature32_by(table: &[u32; 256], seed: u32, octets: &[u8]) -> u32 {
+pub fn signature32_by(table: &[u32; 16], seed: u32, octets: &[u8]) -> u32 {
     unsafe { whakelouna_signature32_by(table, seed, octets.as_ptr(), octets.len()) }
 }
 
@@ -679,12 +679,12 @@ pub fn session_finish(state: &State, some: bool, out: &mut [u8]) -> usize {
 /// The two signature tables.
 pub struct Tables {
     short: [u16; 256],
-    long: [u32; 256],
+    long: [u32; 16],
 }
 
 impl Tables {
     pub fn new() -> Tables {
-        let mut tables = Tables { short: [0; 256], long: [0; 256] };
+        let mut tables = Tables { short: [0; 256], long: [0; 16] };
         table16(&mut tables.short);
         table32(&mut tables.long);
         tables

@@ -9,7 +9,7 @@ uint16_t reference_signature16(uint16_t seed, const uint8_t *octets, size_t leng
 {
     uint16_t signature = seed;
     for (size_t i = 0; i < length; i++)
-        signature = (uint16_t)(table16[((signature >> 8) ^ octets[i]) & 0xff] ^ (signature << 8));
+        signature = octet16(signature, octets[i]);
     return signature;
 }
 
@@ -17,6 +17,6 @@ uint32_t reference_signature32(uint32_t seed, const uint8_t *octets, size_t leng
 {
     uint32_t signature = seed;
     for (size_t i = 0; i < length; i++)
-        signature = table32[((signature >> 24) ^ octets[i]) & 0xff] ^ (signature << 8);
+        signature = octet32(signature, octets[i]);
     return signature;
 }

@@ -1,4 +1,5 @@
-// The time of the library's signatures as a ratio to that of the usual C loop, on the same input in
+// The time of the library's signatures as a ratio to that of the usual C loop over a table of 256
+// entries, and of the long one also to C that works half octets from 16 entries, on the same input in
 // one run.
 
 #[path = "../../bindings/rust/library.rs"]
@@ -14,13 +15,14 @@ const SEED: u8 = 1;
 
 const LOADS: [Load; 3] = [
     Load { octets: 7, messages: 64, passes: 32, rounds: 4000 },
-    Load { octets: 32, messages: 64, passes: 8, rounds: 4000 },
+    Load { octets: 31, messages: 64, passes: 8, rounds: 4000 },
     Load { octets: 65536, messages: 8, passes: 1, rounds: 100 },
 ];
 
 extern "C" {
     fn reference_signature16(seed: u16, octets: *const u8, length: usize) -> u16;
     fn reference_signature32(seed: u32, octets: *const u8, length: usize) -> u32;
+    fn halves_signature32(seed: u32, octets: *const u8, length: usize) -> u32;
 }
 
 fn reference16(octets: &[u8]) -> u32 {
@@ -29,6 +31,10 @@ fn reference16(octets: &[u8]) -> u32 {
 
 fn reference32(octets: &[u8]) -> u32 {
     unsafe { reference_signature32(SEED.into(), octets.as_ptr(), octets.len()) }
+}
+
+fn halves32(octets: &[u8]) -> u32 {
+    unsafe { halves_signature32(SEED.into(), octets.as_ptr(), octets.len()) }
 }
 
 /// What one batch signs, and how many batches are timed.
@@ -43,6 +49,7 @@ struct Load {
 /// Times in nanoseconds for a call.
 struct Times {
     reference: f64,
+    halves: Option<f64>,
     lent: f64,
     plain: f64,
 }
@@ -52,17 +59,23 @@ fn measure(
     load: &Load,
     random: &mut Random,
     reference: impl Fn(&[u8]) -> u32,
+    halves: Option<impl Fn(&[u8]) -> u32>,
     lent: impl Fn(&[u8]) -> u32,
     plain: impl Fn(&[u8]) -> u32,
 ) -> Times {
     let messages = random.octets(load.messages * load.octets);
-    let mut least = Times { reference: f64::MAX, lent: f64::MAX, plain: f64::MAX };
+    let unknown = f64::MAX;
+    let mut least = Times { reference: unknown, halves: None, lent: unknown, plain: unknown };
     for _ in 0..load.rounds {
         let expected = time_batch(load, &messages, &mut least.reference, &reference);
         let by_lent_table = time_batch(load, &messages, &mut least.lent, &lent);
         let by_plain_form = time_batch(load, &messages, &mut least.plain, &plain);
-        if by_lent_table != expected || by_plain_form != expected {
-            println!("speed: the signatures of {} octets differ from C's", load.octets);
+        let by_halves = halves.as_ref().map_or(expected, |halves| {
+            let least = least.halves.get_or_insert(unknown);
+            time_batch(load, &messages, least, halves)
+        });
+        if [by_lent_table, by_plain_form, by_halves] != [expected; 3] {
+            println!("speed: signatures of {} octets differ", load.octets);
             std::process::exit(1);
         }
     }
@@ -90,25 +103,29 @@ fn time_batch(
 
 fn print_rows(octets: usize, width: usize, times: &Times) {
     for (form, time) in [("lent", times.lent), ("plain", times.plain)] {
-        let reference = times.reference;
-        let ratio = time / reference;
-        println!("{octets:>6} {width:>6}  {form:<6} {ratio:>10.2} {time:>10.1} {reference:>10.1}");
+        let (ratio, reference) = (time / times.reference, times.reference);
+        print!("{octets:>6} {width:>6}  {form:<6} {time:>9.1} {ratio:>12.2} {reference:>9.1}");
+        match times.halves {
+            Some(halves) => println!(" {:>11.2} {halves:>9.1}", time / halves),
+            None => println!(),
+        }
     }
 }
 
 fn main() {
     let mut random = Random::from_arguments("speed");
     let mut table16 = [0; 256];
-    let mut table32 = [0; 256];
+    let mut table32 = [0; 16];
     library::table16(&mut table16);
     library::table32(&mut table32);
 
-    println!("octets  width  form   ratio to C    ns ours       ns C");
+    println!("octets  width  form     ns ours  to C of 256      ns C  to C of 16      ns C");
     for load in &LOADS {
         let short = measure(
             load,
             &mut random,
             reference16,
+            None::<fn(&[u8]) -> u32>,
             |octets| library::signature16_by(&table16, SEED.into(), octets).into(),
             |octets| library::signature16(SEED.into(), octets).into(),
         );
@@ -117,6 +134,7 @@ fn main() {
             load,
             &mut random,
             reference32,
+            Some(halves32),
             |octets| library::signature32_by(&table32, SEED.into(), octets),
             |octets| library::signature32(SEED.into(), octets),
         );

@@ -8,7 +8,7 @@ static bool holds16(const uint8_t *spdu, size_t n)
 {
     uint16_t signature = 1;
     for (size_t i = 0; i < n - 2; i++)
-        signature = (uint16_t)(table16[((signature >> 8) ^ spdu[i]) & 0xff] ^ (signature << 8));
+        signature = octet16(signature, spdu[i]);
     if (signature == 0)
         signature = 1;
     return signature == (spdu[n - 2] << 8 | spdu[n - 1]);
@@ -18,7 +18,7 @@ static bool holds32(const uint8_t *spdu, size_t n)
 {
     uint32_t signature = 1;
     for (size_t i = 0; i < n - 4; i++)
-        signature = table32[((signature >> 24) ^ spdu[i]) & 0xff] ^ (signature << 8);
+        signature = octet32(signature, spdu[i]);
     if (signature == 0)
         signature = 1;
     return signature

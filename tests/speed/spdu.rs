@@ -1,5 +1,5 @@
 // The time to read an SPDU, its signature checked and its fields taken apart, as a ratio to that of plain C that does the same, on the
-// same input in one run. The tables are lent to the library; it takes the parameters by value, and the copy is in its time.
+// same input in one run; in mode 2 to C with a table of 256 entries, and to C that works half octets from 16. The tables are lent to the library; it takes the parameters by value, and the copy is in its time.
 // Argument: the seed of the random inputs, or none.
 
 #[path = "../../bindings/rust/library.rs"]
@@ -21,6 +21,8 @@ const FORMATS: [(u8, u8); 6] = [(5, 1), (7, 1), (31, 1), (6, 2), (7, 2), (31, 2)
 extern "C" {
     fn reference_read_response(params: &Params, octets: *const u8, length: usize) -> Response;
     fn reference_read_request(params: &Params, octets: *const u8, length: usize) -> Request;
+    fn halves_read_response(params: &Params, octets: *const u8, length: usize) -> Response;
+    fn halves_read_request(params: &Params, octets: *const u8, length: usize) -> Request;
 }
 
 /// Random SPDUs of the port one behind the other. The signature of every eighth is random too.
@@ -67,19 +69,24 @@ fn one_by_one(n: u8, octets: &[u8], read: impl Fn(&[u8]) -> u64) -> u64 {
         .fold(0, |sum: u64, said| sum.wrapping_mul(3).wrapping_add(said))
 }
 
-/// The least time for an SPDU over all rounds, in nanoseconds, of ours and of C's: whatever else the
-/// machine does can only add to it.
-fn measure(ours: impl Fn() -> u64, reference: impl Fn() -> u64) -> (f64, f64) {
-    let (mut least, mut least_reference) = (f64::MAX, f64::MAX);
+/// The least time for an SPDU over all rounds, in nanoseconds, of ours, of C's and of C's by half
+/// octets: whatever else the machine does can only add to it.
+fn measure(
+    ours: impl Fn() -> u64,
+    reference: impl Fn() -> u64,
+    halves: impl Fn() -> u64,
+) -> [f64; 3] {
+    let mut least = [f64::MAX; 3];
     for _ in 0..ROUNDS {
-        let found = time(&mut least, &ours);
-        let expected = time(&mut least_reference, &reference);
-        if found != expected {
+        let found = time(&mut least[0], &ours);
+        let expected = time(&mut least[1], &reference);
+        let by_halves = time(&mut least[2], &halves);
+        if found != expected || by_halves != expected {
             println!("speed: other fields are read than by C");
             std::process::exit(1);
         }
     }
-    (least, least_reference)
+    least
 }
 
 fn time(least: &mut f64, read: impl Fn() -> u64) -> u64 {
@@ -89,16 +96,19 @@ fn time(least: &mut f64, read: impl Fn() -> u64) -> u64 {
     sum
 }
 
-fn shown(n: u8, mode: u8, name: &str, (ours, reference): (f64, f64)) {
-    let ratio = ours / reference;
-    println!("{n:>6} {mode:>5}  {name:<9} {ratio:>10.2} {ours:>10.1} {reference:>10.1}");
+fn shown(n: u8, mode: u8, name: &str, [ours, reference, halves]: [f64; 3]) {
+    print!("{n:>6} {mode:>5}  {name:<9} {ours:>7.1} {:>12.2} {reference:>6.1}", ours / reference);
+    match mode {
+        1 => println!(),
+        _ => println!(" {:>11.2} {halves:>6.1}", ours / halves),
+    }
 }
 
 fn main() {
     let mut random = Random::from_arguments("speed");
     let tables = Tables::new();
 
-    println!("octets  mode  read      ratio to C    ns ours       ns C");
+    println!("octets  mode  read      ns ours  to C of 256   ns C  to C of 16   ns C");
     for (n, mode) in FORMATS {
         let params = Params {
             fsp_port: PORT,
@@ -116,12 +126,24 @@ fn main() {
                     response_told(read)
                 })
             },
+            || {
+                one_by_one(n, &octets, |s| {
+                    let read = unsafe { halves_read_response(&params, s.as_ptr(), s.len()) };
+                    response_told(read)
+                })
+            },
         );
         let request = measure(
             || one_by_one(n, &octets, |s| request_told(tables.read_request(params, s))),
             || {
                 one_by_one(n, &octets, |s| {
                     let read = unsafe { reference_read_request(&params, s.as_ptr(), s.len()) };
+                    request_told(read)
+                })
+            },
+            || {
+                one_by_one(n, &octets, |s| {
+                    let read = unsafe { halves_read_request(&params, s.as_ptr(), s.len()) };
                     request_told(read)
                 })
             },

@@ -92,7 +92,7 @@ pub fn parameters_act(port: u8, octets: &[u8]) -> Act
 // An SPDU received as FS-Master; `safe_holds`: the safe values lent are as many zeros as it has process octets.
 pub fn response_act(
     short: &[u16; 256],
-    long: &[u32; 256],
+    long: &[u32; 16],
     outside: bool,
     setting: Setting,
     at: u32,
@@ -121,7 +121,7 @@ pub fn response_act(
 // An SPDU received as FS-Device.
 pub(crate) fn request_act(
     short: &[u16; 256],
-    long: &[u32; 256],
+    long: &[u32; 16],
     outside: bool,
     setting: Setting,
     at: u32,

@@ -14,8 +14,8 @@ pub extern "C" fn whakelouna_table16(table: &mut [u16; 256])
 
 // Writes the long signature's lookup table.
 #[no_mangle]
-pub extern "C" fn whakelouna_table32(table: &mut [u32; 256])
-    ensures { λ _. ⌜ Table 32 generator32 8 (now (table .exit)) ⌝ }
+pub extern "C" fn whakelouna_table32(table: &mut [u32; 16])
+    ensures { λ _. ⌜ Table 32 generator32 4 (now (table .exit)) ⌝ }
 {
     *table = signature::table32();
 }
@@ -50,14 +50,14 @@ pub extern "C" fn whakelouna_signature32(seed: u32, octets: &[u8]) -> u32
 
 #[no_mangle]
 pub extern "C" fn whakelouna_signature16_by(table: &[u16; 256], seed: u16, octets: &[u8]) -> u16
-    ensures { λ r. ⌜ r ≡ byTable 16 (now (table .entry)) seed (now (octets .entry)) ⌝ }
+    ensures { λ r. ⌜ r ≡ byTable 16 8 (now (table .entry)) seed (now (octets .entry)) ⌝ }
 {
     signature::signature16_by(table, seed, octets)
 }
 
 #[no_mangle]
-pub extern "C" fn whakelouna_signature32_by(table: &[u32; 256], seed: u32, octets: &[u8]) -> u32
-    ensures { λ r. ⌜ r ≡ byTable 32 (now (table .entry)) seed (now (octets .entry)) ⌝ }
+pub extern "C" fn whakelouna_signature32_by(table: &[u32; 16], seed: u32, octets: &[u8]) -> u32
+    ensures { λ r. ⌜ r ≡ byTable 32 4 (now (table .entry)) seed (now (octets .entry)) ⌝ }
 {
     signature::signature32_by(table, seed, octets)
 }

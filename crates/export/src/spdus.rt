@@ -12,7 +12,7 @@ use scl::Response;
 #[no_mangle]
 pub extern "C" fn whakelouna_read_response_by(
     short: &[u16; 256],
-    long: &[u32; 256],
+    long: &[u32; 16],
     p: Params,
     octets: &[u8],
 ) -> Response
@@ -24,7 +24,7 @@ pub extern "C" fn whakelouna_read_response_by(
 #[no_mangle]
 pub extern "C" fn whakelouna_read_request_by(
     short: &[u16; 256],
-    long: &[u32; 256],
+    long: &[u32; 16],
     p: Params,
     octets: &[u8],
 ) -> Request
@@ -37,7 +37,7 @@ pub extern "C" fn whakelouna_read_request_by(
 #[no_mangle]
 pub extern "C" fn whakelouna_build_request_by(
     short: &[u16; 256],
-    long: &[u32; 256],
+    long: &[u32; 16],
     p: Params,
     MCount: u8,
     setSD: bool,
@@ -55,7 +55,7 @@ pub extern "C" fn whakelouna_build_request_by(
 #[no_mangle]
 pub extern "C" fn whakelouna_build_response_by(
     short: &[u16; 256],
-    long: &[u32; 256],
+    long: &[u32; 16],
     p: Params,
     responded: bool,
     DCount_i: u8,

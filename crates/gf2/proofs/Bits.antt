@@ -7,13 +7,14 @@ use Prim.Native.Nat.{ℕ, zero, suc, _+_, _*_, _^_, _/_, _%_, _<_}
 use native.Mathlib.Nat.{mod-one, mod-eq-of-lt, zero-div, mul-div-mul-right, mul-mod-left, zero-add, suc-add, add-comm, pow-suc}
 use native.Mathlib.Numerals.{add-one}
 use native.Mathlib.Omega.{arith}
-use lib.Bits.{bitXor, xor-shr, xor-mod}
+use lib.Bits.{bitXor, xor-lt, xor-shr, xor-mod}
 use lib.Dec.{eqb}
 use lib.ListN.{length}
 use lib.Pow.{field, mod-mod-pow, mod-pow-add, shr-shr, shl-shr}
 use Rattle.gf2.specs.Polynomial.{_⊻_, _⊕_, zeros}
 use Rattle.gf2.specs.Register.{shift}
 use Rattle.gf2.specs.Bits.{bits}
+use Rattle.gf2.proofs.Sum.{sum-assoc}
 
 xor-small : (m n : ℕ) → m < 2 → n < 2 → eqb (bitXor m n) 1 ≡ (eqb m 1 ⊻ eqb n 1)
 xor-small zero zero h k = refl
@@ -91,3 +92,16 @@ number-bits (suc w) x =
 pub bits-injective : (w : ℕ) {x y : ℕ} → x < 2 ^ w → y < 2 ^ w → bits w x ≡ bits w y → x ≡ y
 bits-injective w {x} {y} h k e =
     sym (mod-eq-of-lt h) ∙ sym (number-bits w x) ∙ ap number e ∙ number-bits w y ∙ mod-eq-of-lt k
+
+below-power : (n : ℕ) → n < 2 ^ n
+below-power zero = omega arith
+below-power (suc n) = rw pow-suc (omega (arith, below-power n))
+
+pub xor-assoc : (a b c : ℕ) → bitXor (bitXor a b) c ≡ bitXor a (bitXor b c)
+xor-assoc a b c =
+    let w : ℕ = a + b + c in
+    let ha : a < 2 ^ w = omega (arith, below-power w) in
+    let hb : b < 2 ^ w = omega (arith, below-power w) in
+    let hc : c < 2 ^ w = omega (arith, below-power w) in
+    bits-injective w (xor-lt w (bitXor a b) c (xor-lt w a b ha hb) hc) (xor-lt w a (bitXor b c) ha (xor-lt w b c hb hc))
+    (cc (bits-xor w (bitXor a b) c, bits-xor w a b, sum-assoc (bits w a) (bits w b) (bits w c), bits-xor w b c, bits-xor w a (bitXor b c)))

@@ -15,7 +15,7 @@ fn first_octet(octets: &[u8]) -> u8
 // A record lends zeros as safe values, so they hold.
 pub(crate) fn act_of(
     short: &[u16; 256],
-    long: &[u32; 256],
+    long: &[u32; 16],
     outside: bool,
     setting: Setting,
     kind: u8,

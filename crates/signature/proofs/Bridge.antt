@@ -3,10 +3,11 @@
 use mathlib.Core.Path.{_≡_, refl, sym, ap, _∙_}
 use mathlib.Core.Bool.{Bool, true, false, cond}
 use mathlib.Core.List.{List, [], _∷_}
-use Prim.Native.Nat.{ℕ, _*_, _/_, _%_, _^_, _<_}
+use Prim.Native.Nat.{ℕ, zero, suc, _*_, _/_, _%_, _^_, _<_}
 use native.Mathlib.Nat.{mod-lt}
+use native.Mathlib.Omega.{arith}
 use lib.Bits.{bitXor, xor-lt}
-use lib.Dec.{eqb}
+use lib.Dec.{eqb, lit<}
 use lib.ListN.{length}
 use lib.Pow.{pow-pos}
 use Rattle.gf2.specs.Polynomial.{_⊻_, _⊕_, scale}
@@ -55,14 +56,20 @@ module _ (w g : ℕ) where
         picked true = xor-lt w (r * 2 % 2 ^ w) g low hg
         picked false = low
 
-    pub shiftInAll-lt : {r : ℕ} (ds : List Bool) → r < 2 ^ w → shiftInAll w g r ds < 2 ^ w
+    shiftInAll-lt : {r : ℕ} (ds : List Bool) → r < 2 ^ w → shiftInAll w g r ds < 2 ^ w
     unfolding shiftInAll
     shiftInAll-lt [] h = h
     shiftInAll-lt {r} (d ∷ ds) h = shiftInAll-lt ds (shiftIn-lt r d)
 
-    pub octet-lt : (r x : ℕ) → octet w g r x < 2 ^ w
-    unfolding octet shiftInAll
-    octet-lt r x = shiftInAll-lt (bits 7 x) (shiftIn-lt r (eqb (x / 2 ^ 7 % 2) 1))
+    -- after one turn, whatever the register was
+    pub turns-lt : (n : ℕ) → 0 < n → (r x : ℕ) → shiftInAll w g r (bits n x) < 2 ^ w
+    unfolding shiftInAll
+    turns-lt zero h r x = absurd (omega arith)
+    turns-lt (suc n) h r x = shiftInAll-lt (bits n x) (shiftIn-lt r (eqb (x / 2 ^ n % 2) 1))
+
+    octet-lt : (r x : ℕ) → octet w g r x < 2 ^ w
+    unfolding octet
+    octet-lt r x = turns-lt 8 (lit< tt) r x
 
     pub signature-lt : {r : ℕ} (xs : List ℕ) → r < 2 ^ w → signature w g r xs < 2 ^ w
     unfolding signature

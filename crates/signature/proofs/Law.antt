@@ -2,8 +2,8 @@
 use mathlib.Core.Path.{_≡_, refl, sym, ap, _∙_}
 use mathlib.Core.Bool.{Bool}
 use mathlib.Core.List.{List, [], _∷_, _++_}
-use Prim.Native.Nat.{ℕ, _+_, _-_, _*_, _/_, _%_, _^_, _<_, _≤_}
-use native.Mathlib.Nat.{mod-lt, zero-add, add-comm}
+use Prim.Native.Nat.{ℕ, zero, suc, _+_, _-_, _*_, _/_, _%_, _^_, _<_, _≤_}
+use native.Mathlib.Nat.{mod-lt, zero-add, add-comm, mul-zero, mul-suc}
 use native.Mathlib.Numerals.{add-one}
 use native.Mathlib.Omega.{arith}
 use lib.Bits.{bitXor, xor-lt}
@@ -15,11 +15,16 @@ use Rattle.gf2.specs.Register.{register}
 use Rattle.gf2.specs.Bits.{bits}
 use Rattle.gf2.proofs.Bits.{bits-length, bits-xor, bits-zero, bits-mod, bits-parts, bits-shifted, bits-injective}
 use Rattle.gf2.proofs.Table.{by-table}
-use Rattle.signature.specs.Signature.{shiftInAll, octet, signature}
-use Rattle.signature.specs.Lookup.{division, Table, lookUp, byTable}
-use Rattle.signature.proofs.Bridge.{shiftInAll-bits, shiftInAll-lt, octet-lt}
+use Rattle.signature.specs.Signature.{shiftIn, shiftInAll, octet, signature}
+use Rattle.signature.specs.Lookup.{division, Table, lookUp, lookUps, octetByTable, byTable}
+use Rattle.signature.proofs.Bridge.{shiftInAll-bits, turns-lt}
 
-module _ (w g n k : ℕ) (wide : w ≡ n + k) (hg : g < 2 ^ w) where
+shiftInAll-append : (w g r : ℕ) (ds es : List Bool) → shiftInAll w g r (ds ++ es) ≡ shiftInAll w g (shiftInAll w g r ds) es
+unfolding shiftInAll
+shiftInAll-append w g r [] es = refl
+shiftInAll-append w g r (d ∷ ds) es = shiftInAll-append w g (shiftIn w g r d) ds es
+
+module _ (w g n k : ℕ) (wide : w ≡ n + k) (hg : g < 2 ^ w) (hn : 0 < n) where
   -- the register's bits: those that the step looks at, and the rest, which shifts left
   module _ (r : ℕ) where
     parts : bits w r ≡ bits n (r / 2 ^ k) ++ bits k r
@@ -62,39 +67,53 @@ module _ (w g n k : ℕ) (wide : w ≡ n + k) (hg : g < 2 ^ w) where
         bits-xor w (division w g n i) (r * 2 ^ n % 2 ^ w),
       )
 
-  look : {table : List ℕ} (r x : ℕ) → Table w g n table → shiftInAll w g r (bits n x) < 2 ^ w
-      → lookUp w n table r x ≡ shiftInAll w g r (bits n x)
+  look : {table : List ℕ} → Table w g n table → (r x : ℕ) → lookUp w n table r x ≡ shiftInAll w g r (bits n x)
   unfolding division
-  look r x t fits =
+  look t r x =
       let i = bitXor (r / 2 ^ k) x % 2 ^ n in
       let e : w - n ≡ k = omega arith in
-      let d : division w g n i < 2 ^ w = shiftInAll-lt w g hg (bits n i) (pow-pos w) in
+      let d : division w g n i < 2 ^ w = turns-lt w g hg n hn 0 i in
       rw (e, t .entry i (mod-lt (bitXor (r / 2 ^ k) x) (pow-pos n)))
-      (sym (bits-injective w fits (xor-lt w (division w g n i) (r * 2 ^ n % 2 ^ w) d (mod-lt (r * 2 ^ n) (pow-pos w))) (step-bits r x)))
+      (sym
+      (bits-injective w
+      (turns-lt w g hg n hn r x)
+      (xor-lt w (division w g n i) (r * 2 ^ n % 2 ^ w) d (mod-lt (r * 2 ^ n) (pow-pos w)))
+      (step-bits r x)))
 
-module _ (w g k : ℕ) (wide : w ≡ 8 + k) (hg : g < 2 ^ w) {table : List ℕ} (t : Table w g 8 table) where
-  pub look-octet : (r x : ℕ) → lookUp w 8 table r x ≡ octet w g r x
-  unfolding octet
-  look-octet r x = look w g 8 k wide hg r x t (octet-lt w g hg r x)
+  -- look-ups, however many, are turns of the loop
+  looks : {table : List ℕ} → Table w g n table → (m r x : ℕ) → lookUps w n table m r x ≡ shiftInAll w g r (bits (n * m) x)
+  unfolding shiftInAll
+  looks t zero r x = ap (λ (l : ℕ). shiftInAll w g r (bits l x)) (sym (mul-zero n))
+  looks {table} t (suc m) r x =
+      ap (λ (s : ℕ). lookUp w n table s x) (looks t m r (x / 2 ^ n))
+      ∙ look t (shiftInAll w g r (bits (n * m) (x / 2 ^ n))) x
+      ∙ sym (shiftInAll-append w g r (bits (n * m) (x / 2 ^ n)) (bits n x))
+      ∙ ap (shiftInAll w g r) (sym (bits-parts (n * m) n x) ∙ ap (λ (l : ℕ). bits l x) (sym (mul-suc n m)))
 
-  pub look-all : (r : ℕ) (xs : List ℕ) → byTable w table r xs ≡ signature w g r xs
-  unfolding byTable signature
-  look-all r [] = refl
-  look-all r (x ∷ xs) = ap (λ (s : ℕ). byTable w table s xs) (look-octet r x) ∙ look-all (octet w g r x) xs
+  -- an octet is a whole number of look-ups
+  module _ (whole : n * (8 / n) ≡ 8) {table : List ℕ} (t : Table w g n table) where
+    pub look-octet : (r x : ℕ) → octetByTable w n table r x ≡ octet w g r x
+    unfolding octet
+    look-octet r x = looks t (8 / n) r x ∙ ap (λ (l : ℕ). shiftInAll w g r (bits l x)) whole
+
+    pub look-all : (r : ℕ) (xs : List ℕ) → byTable w n table r xs ≡ signature w g r xs
+    unfolding byTable signature
+    look-all r [] = refl
+    look-all r (x ∷ xs) = ap (λ (s : ℕ). byTable w n table s xs) (look-octet r x) ∙ look-all (octet w g r x) xs
 
 -- A loop over the octets of s, at the register r before the octet i: what is left from r leads where all leads from the seed.
-pub record Left (w : ℕ) (table : List ℕ) (seed : ℕ) (s : List ℕ) (r i : ℕ) : Type 0 where
+pub record Left (w n : ℕ) (table : List ℕ) (seed : ℕ) (s : List ℕ) (r i : ℕ) : Type 0 where
   pub within : i ≤ length s
-  pub rest : byTable w table r (drop i s) ≡ byTable w table seed s
+  pub rest : byTable w n table r (drop i s) ≡ byTable w n table seed s
 
-module _ {w : ℕ} {table : List ℕ} {seed : ℕ} {s : List ℕ} where
-  pub start : Left w table seed s seed 0
+module _ {w n : ℕ} {table : List ℕ} {seed : ℕ} {s : List ℕ} where
+  pub start : Left w n table seed s seed 0
   start = record { within = omega arith; rest = refl }
 
-  pub again : {r i r′ : ℕ} → Left w table seed s r i → i < length s → r′ ≡ lookUp w 8 table r (getD s i 0) → Left w table seed s r′ (i + 1)
+  pub again : {r i r′ : ℕ} → Left w n table seed s r i → i < length s → r′ ≡ octetByTable w n table r (getD s i 0) → Left w n table seed s r′ (i + 1)
   unfolding byTable
   again {r} {i} inv h e = record { within = omega arith; rest = rw (e, add-one) (rw (drop-cons s i 0) at (inv .rest)) }
 
-  pub done : {r i : ℕ} → Left w table seed s r i → length s ≤ i → r ≡ byTable w table seed s
+  pub done : {r i : ℕ} → Left w n table seed s r i → length s ≤ i → r ≡ byTable w n table seed s
   unfolding byTable
   done {r} {i} inv h = rw (drop-of-length-le s h) at (inv .rest)

@@ -1,5 +1,6 @@
 pub mod Bridge
 pub mod Table
 pub mod Law
+pub mod Ahead
 pub mod Detect
 pub mod Arises

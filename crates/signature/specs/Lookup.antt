@@ -1,13 +1,14 @@
--- Method, 000 Annex D, D.3.3 and D.3.5: the same by a lookup table, n bits of data at a time. 000 has n = 8, an octet. Assumes nothing.
+-- Method, 000 Annex D, D.3.3 and D.3.5: the same by a lookup table, n bits of data at a time. 000 has n = 8, an octet, and so has the short
+-- signature here; the long one has n = 4, half an octet (02, item 4). Assumes nothing.
 use mathlib.Core.Path.{_≡_}
 use mathlib.Core.List.{List, [], _∷_}
-use Prim.Native.Nat.{ℕ, _*_, _/_, _%_, _^_, _-_, _<_}
+use Prim.Native.Nat.{ℕ, zero, suc, _*_, _/_, _%_, _^_, _-_, _<_}
 use lib.Bits.{bitXor}
 use lib.ListN.{length, getD}
 use Rattle.gf2.specs.Bits.{bits}
 use Rattle.signature.specs.Signature.{shiftInAll}
 
--- the division of an index of n bits: n turns of the loop from the register 0 (01, "the eight-step division of its index")
+-- the division of an index of n bits: n turns of the loop from the register 0 (01, "the eight-step division of its index", has n = 8)
 unfoldable pub division : ℕ → ℕ → ℕ → ℕ → ℕ
 division w g n i = shiftInAll w g 0 (bits n i)
 
@@ -20,7 +21,16 @@ pub record Table (w g n : ℕ) (table : List ℕ) : Type 0 where
 abbrev pub lookUp : ℕ → ℕ → List ℕ → ℕ → ℕ → ℕ
 lookUp w n table r x = bitXor (getD table (bitXor (r / 2 ^ (w - n)) x % 2 ^ n) 0) (r * 2 ^ n % 2 ^ w)
 
--- a look-up for each octet, from the register r
-unfoldable pub byTable : ℕ → List ℕ → ℕ → List ℕ → ℕ
-byTable w table r [] = r
-byTable w table r (x ∷ xs) = byTable w table (lookUp w 8 table r x) xs
+-- the lowest n * k bits of x by k look-ups of n bits each, the highest first
+abbrev pub lookUps : ℕ → ℕ → List ℕ → ℕ → ℕ → ℕ → ℕ
+lookUps w n table zero r x = r
+lookUps w n table (suc k) r x = lookUp w n table (lookUps w n table k r (x / 2 ^ n)) x
+
+-- an octet: one look-up of 8 bits, two of 4
+abbrev pub octetByTable : ℕ → ℕ → List ℕ → ℕ → ℕ → ℕ
+octetByTable w n table r x = lookUps w n table (8 / n) r x
+
+-- octet by octet, from the register r
+unfoldable pub byTable : ℕ → ℕ → List ℕ → ℕ → List ℕ → ℕ
+byTable w n table r [] = r
+byTable w n table r (x ∷ xs) = byTable w n table (octetByTable w n table r x) xs

@@ -278,7 +278,7 @@ pub fn step16_by(table: &[u16; 256], register: u16, x: u8) -> u16
 }
 
 pub fn signature16_by(table: &[u16; 256], seed: u16, octets: &[u8]) -> u16
-    ensures { λ r. ⌜ r ≡ byTable 16 (now (table .entry)) seed (now (octets .entry)) ⌝ }
+    ensures { λ r. ⌜ r ≡ byTable 16 8 (now (table .entry)) seed (now (octets .entry)) ⌝ }
 {
     let mut register = seed;
     let mut i = 0;

@@ -19,9 +19,13 @@ generatorOf mode = cond (eqb mode 1) generator16 generator32
 abbrev pub byBits : ℕ → List ℕ → ℕ
 byBits mode contents = signature (widthOf mode) (generatorOf mode) 1 contents
 
+-- the bits that a look-up takes in: an octet by the short table, half an octet by the long one (02, item 4)
+abbrev pub indexBitsOf : ℕ → ℕ
+indexBitsOf mode = cond (eqb mode 1) 8 4
+
 -- the same by two tables that are lent
 abbrev pub byTables : List ℕ → List ℕ → ℕ → List ℕ → ℕ
-byTables short long mode contents = byTable (widthOf mode) (cond (eqb mode 1) short long) 1 contents
+byTables short long mode contents = byTable (widthOf mode) (indexBitsOf mode) (cond (eqb mode 1) short long) 1 contents
 
 -- "In case the result of the CRC signature calculation leads to a 0, a 1 shall be sent and evaluated at the receiver side correspondingly."
 abbrev pub replaced : ℕ → ℕ

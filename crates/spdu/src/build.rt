@@ -14,7 +14,7 @@ use block::Params;
 // The signature of process octets, port number and control octet, a zero replaced.
 fn seal(
     short: &[u16; 256],
-    long: &[u32; 256],
+    long: &[u32; 16],
     mode: u8,
     process: &[u8],
     port: u8,
@@ -62,7 +62,7 @@ fn join(front: &[u8], back: &[u8], out: &mut [u8])
 
 fn write(
     short: &[u16; 256],
-    long: &[u32; 256],
+    long: &[u32; 16],
     mode: u8,
     process: &[u8],
     port: u8,
@@ -115,7 +115,7 @@ fn status_octet(DCount_i: u8, SDset: bool, DCommErr: bool, DTimeout: bool) -> u8
 // As `write`, with n zeros for process octets.
 fn write_zeros(
     short: &[u16; 256],
-    long: &[u32; 256],
+    long: &[u32; 16],
     mode: u8,
     n: usize,
     port: u8,
@@ -142,7 +142,7 @@ fn clear(out: &mut [u8])
 // The FS-Master's SPDU, into exactly SPDUOutLength octets.
 pub fn build_request_by(
     short: &[u16; 256],
-    long: &[u32; 256],
+    long: &[u32; 16],
     p: Params,
     MCount: u8,
     setSD: bool,
@@ -171,7 +171,7 @@ pub fn build_request_by(
 // The FS-Device's SPDU, into exactly SPDUInLength octets; zeros until it has responded.
 pub fn build_response_by(
     short: &[u16; 256],
-    long: &[u32; 256],
+    long: &[u32; 16],
     p: Params,
     responded: bool,
     DCount_i: u8,

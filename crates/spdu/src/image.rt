@@ -23,7 +23,7 @@ fn composer_fits(mode: u8, o: u8, rest: u8, process: usize, other: usize, octets
 // The outgoing image of the FS-Master: the SPDU is built in its place, and the other data stands behind it.
 pub fn compose_by(
     short: &[u16; 256],
-    long: &[u32; 256],
+    long: &[u32; 16],
     p: Params,
     MCount: u8,
     setSD: bool,

@@ -32,7 +32,7 @@ fn first(s: &[u8], n: usize) -> &[u8]
 }
 
 // The signature that the contents compute, before a zero is replaced.
-pub(crate) fn sign(short: &[u16; 256], long: &[u32; 256], mode: u8, contents: &[u8]) -> u32
+pub(crate) fn sign(short: &[u16; 256], long: &[u32; 16], mode: u8, contents: &[u8]) -> u32
     ensures { λ r. ⌜ r ≡ byTables (now (short .entry)) (now (long .entry)) mode (now (contents .entry)) ⌝ }
 {
     if mode == 1 {
@@ -74,7 +74,7 @@ pub(crate) fn all_zero(s: &[u8]) -> bool
     true
 }
 
-fn signature_holds(short: &[u16; 256], long: &[u32; 256], mode: u8, s: &[u8]) -> bool
+fn signature_holds(short: &[u16; 256], long: &[u32; 16], mode: u8, s: &[u8]) -> bool
     requires { ⌜ length (now s) ≤ 255 ⌝ }
     ensures { λ r. ⌜ r ≡ places.signatureHolds (byTables (now (short .entry)) (now (long .entry))) mode (now (s .entry)) ⌝ }
 {
@@ -93,7 +93,7 @@ fn short_holds(short: &[u16; 256], s: &[u8]) -> bool
     word(s[end], s[end + 1]) as u32 == right
 }
 
-fn long_holds(long: &[u32; 256], s: &[u8]) -> bool
+fn long_holds(long: &[u32; 16], s: &[u8]) -> bool
     requires { ⌜ 6 ≤ length (now s) ⌝ }
     ensures { λ r. ⌜ r ≡ places.signatureHolds (byTables [] (now (long .entry))) 2 (now (s .entry)) ⌝ }
 {
@@ -112,7 +112,7 @@ struct Trailer {
 }
 
 // Each place is tested, as an SPDU that lacks safety octets asks. None such is configured.
-fn cut_trailer_by(short: &[u16; 256], long: &[u32; 256], mode: u8, s: &[u8]) -> Trailer
+fn cut_trailer_by(short: &[u16; 256], long: &[u32; 16], mode: u8, s: &[u8]) -> Trailer
     requires { ⌜ length (now s) ≤ 255 ⌝ }
     ensures { λ r. ⌜ r ≡ fields.trailerOf (byTables (now (short .entry)) (now (long .entry))) mode (now (s .entry)) ⌝ }
 {
@@ -125,7 +125,7 @@ fn cut_trailer_by(short: &[u16; 256], long: &[u32; 256], mode: u8, s: &[u8]) -> 
 }
 
 // The places are worked out once, from the end.
-fn trailer_by(short: &[u16; 256], long: &[u32; 256], mode: u8, s: &[u8]) -> Trailer
+fn trailer_by(short: &[u16; 256], long: &[u32; 16], mode: u8, s: &[u8]) -> Trailer
     ensures { λ r. ⌜ r ≡ fields.trailerOf (byTables (now (short .entry)) (now (long .entry))) mode (now (s .entry)) ⌝ }
 {
     let n = s.len();
@@ -151,7 +151,7 @@ fn trailer_by(short: &[u16; 256], long: &[u32; 256], mode: u8, s: &[u8]) -> Trai
 }
 
 // The fields of an SPDU, whatever its length.
-pub fn response_fields_by(short: &[u16; 256], long: &[u32; 256], p: Params, s: &[u8]) -> Response
+pub fn response_fields_by(short: &[u16; 256], long: &[u32; 16], p: Params, s: &[u8]) -> Response
     ensures { λ r. ⌜ r ≡ fields.responseFields (byTables (now (short .entry)) (now (long .entry))) p (now (s .entry)) ⌝ }
 {
     let t = trailer_by(short, long, p.FSP_ProtMode, s);
@@ -169,7 +169,7 @@ pub fn response_fields_by(short: &[u16; 256], long: &[u32; 256], p: Params, s: &
     }
 }
 
-pub fn read_response_by(short: &[u16; 256], long: &[u32; 256], p: Params, s: &[u8]) -> Response
+pub fn read_response_by(short: &[u16; 256], long: &[u32; 16], p: Params, s: &[u8]) -> Response
     ensures { λ r. ⌜ r ≡ fields.responseBy (byTables (now (short .entry)) (now (long .entry))) p (now (s .entry)) ⌝ }
 {
     if s.len() == p.SPDUInLength as usize {
@@ -190,7 +190,7 @@ pub fn read_response_by(short: &[u16; 256], long: &[u32; 256], p: Params, s: &[u
 }
 
 // The fields of an SPDU, whatever its length.
-pub fn request_fields_by(short: &[u16; 256], long: &[u32; 256], p: Params, s: &[u8]) -> Request
+pub fn request_fields_by(short: &[u16; 256], long: &[u32; 16], p: Params, s: &[u8]) -> Request
     ensures { λ r. ⌜ r ≡ fields.requestFields (byTables (now (short .entry)) (now (long .entry))) p (now (s .entry)) ⌝ }
 {
     let t = trailer_by(short, long, p.FSP_ProtMode, s);
@@ -207,7 +207,7 @@ pub fn request_fields_by(short: &[u16; 256], long: &[u32; 256], p: Params, s: &[
     }
 }
 
-pub fn read_request_by(short: &[u16; 256], long: &[u32; 256], p: Params, s: &[u8]) -> Request
+pub fn read_request_by(short: &[u16; 256], long: &[u32; 16], p: Params, s: &[u8]) -> Request
     ensures { λ r. ⌜ r ≡ fields.requestBy (byTables (now (short .entry)) (now (long .entry))) p (now (s .entry)) ⌝ }
 {
     if s.len() == p.SPDUOutLength as usize {

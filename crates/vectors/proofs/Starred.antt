@@ -9,7 +9,7 @@ use Rattle.signature.specs.Lookup.{division, Table}
 use Rattle.scl.specs.Time.{elapsedOf}
 use Rattle.vectors.specs.Starred.{rows, Agree}
 
-pub starred : {short long : List ℕ} → Table 16 generator16 8 short → Table 32 generator32 8 long → Agree (rows short long)
+pub starred : {short long : List ℕ} → Table 16 generator16 8 short → Table 32 generator32 4 long → Agree (rows short long)
 unfolding rows elapsedOf division shiftInAll shiftIn
 starred s l = λ i.
     s .entry 0 (lit< tt) i

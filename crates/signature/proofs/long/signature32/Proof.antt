@@ -10,7 +10,7 @@ use Rattle.signature.proofs.long.signature32.Tie as tie
 returns : tie.Need-returns
 returns c =
     let args = c .before .before .before .before .args in
-    c .signature32-by .ensures ∙ look-all 32 generator32 24 refl (lit< tt) (c .before .before .table32 .ensures) (args .seed) (args .octets .now)
+    c .signature32-by .ensures ∙ look-all 32 generator32 4 28 refl (lit< tt) (lit< tt) refl (c .before .before .table32 .ensures) (args .seed) (args .octets .now)
 
 pub signature32-spec : {M : Type 1} → statement M
 signature32-spec = tie.close (tie.spec (λ c κs. search needs) (λ c κs. search needs) returns)

@@ -7,7 +7,7 @@ use Rattle.signature.proofs.long.signature32_by.Statement.{statement}
 use Rattle.signature.proofs.long.signature32_by.Tie as tie
 
 abbrev Inv-loop : tie.InvT-loop
-Inv-loop table seed octets register₀ i₀ register i = Left 32 table seed octets register i
+Inv-loop table seed octets register₀ i₀ register i = Left 32 4 table seed octets register i
 
 abbrev μ-loop : tie.MeasureT-loop
 μ-loop table seed octets register₀ i₀ register i = length octets - i

@@ -19,8 +19,8 @@ returns c =
     let t = args .short .now in
     c .replace .ensures
     ∙ ap replaced
-    (sealed 16 t (args .process .now) (args .port) (args .control) (c3 .signature16-by .ensures) (c2 .step16-by .ensures) (c1 .step16-by2 .ensures)
-    ∙ ap (λ (b : Bool). byTable (cond b 16 32) (cond b t (args .long .now)) 1 (contentsWith (args .process .now) (args .port) (args .control))) (sym (eq-eqb (args .mode) 1 (c3 .before .if1 .taken))))
+    (sealed 16 8 t (args .process .now) (args .port) (args .control) (c3 .signature16-by .ensures) (c2 .step16-by .ensures) (c1 .step16-by2 .ensures)
+    ∙ ap (λ (b : Bool). byTable (cond b 16 32) (cond b 8 4) (cond b t (args .long .now)) 1 (contentsWith (args .process .now) (args .port) (args .control))) (sym (eq-eqb (args .mode) 1 (c3 .before .if1 .taken))))
 
 returns-2 : tie.Need-returns-2
 returns-2 c =
@@ -31,8 +31,8 @@ returns-2 c =
     let t = args .long .now in
     c .replace2 .ensures
     ∙ ap replaced
-    (sealed 32 t (args .process .now) (args .port) (args .control) (c3 .signature32-by .ensures) (c2 .step32-by .ensures) (c1 .step32-by2 .ensures)
-    ∙ ap (λ (b : Bool). byTable (cond b 16 32) (cond b (args .short .now) t) 1 (contentsWith (args .process .now) (args .port) (args .control))) (sym (ne-eqb (args .mode) 1 (c3 .before .if1 .left))))
+    (sealed 32 4 t (args .process .now) (args .port) (args .control) (c3 .signature32-by .ensures) (c2 .step32-by .ensures) (c1 .step32-by2 .ensures)
+    ∙ ap (λ (b : Bool). byTable (cond b 16 32) (cond b 8 4) (cond b (args .short .now) t) 1 (contentsWith (args .process .now) (args .port) (args .control))) (sym (ne-eqb (args .mode) 1 (c3 .before .if1 .left))))
 
 pub seal-spec : {M : Type 1} → statement M
 seal-spec =
