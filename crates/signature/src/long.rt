@@ -37,8 +37,8 @@ fn look_up32(table: &[u32; 16], register: u32) -> u32
     table[(register >> 28) as usize] ^ (register << 4)
 }
 
-// One octet into the register (000 Figure D.6, half an octet at a time). Its bits are added to the register's first eight ahead of both look-ups:
-// the high half picks the first entry, and the low half, shifted up, the second.
+// One octet into the register (000 Figure D.6, half an octet at a time). It is added to the register's first eight bits ahead of both look-ups, so
+// that its high half is in the first index and its low half, shifted up by then, in the second.
 pub fn step32_by(table: &[u32; 16], register: u32, x: u8) -> u32
     ensures { λ r. ⌜ r ≡ octetByTable 32 4 (now (table .entry)) register x ⌝ }
 {
