@@ -31,13 +31,19 @@ enum whakelouna_answer {
 };
 
 // The signatures of 000 Annex D. `_by` takes a table that the caller holds; `whakelouna_table16` and `_table32` write the right one. The long
-// signature takes half an octet at a time, so that its table has 16 entries.
+// signature takes half an octet at a time, so that its table has 16 entries. `_by_shift` is the bit shift loop of 000 Figures D.3 and D.5. Where a
+// function below takes `shift`, true signs by that loop instead of the tables. The results are the same; it is for people who approve and read the loop,
+// not a table.
 void whakelouna_table16(uint16_t table[256]);
 void whakelouna_table32(uint32_t table[16]);
 uint16_t whakelouna_step16(uint16_t reg, uint8_t octet);
 uint32_t whakelouna_step32(uint32_t reg, uint8_t octet);
+uint16_t whakelouna_step16_by_shift(uint16_t reg, uint8_t octet);
+uint32_t whakelouna_step32_by_shift(uint32_t reg, uint8_t octet);
 uint16_t whakelouna_signature16(uint16_t seed, const uint8_t *octets, size_t length);
 uint32_t whakelouna_signature32(uint32_t seed, const uint8_t *octets, size_t length);
+uint16_t whakelouna_signature16_by_shift(uint16_t seed, const uint8_t *octets, size_t length);
+uint32_t whakelouna_signature32_by_shift(uint32_t seed, const uint8_t *octets, size_t length);
 uint16_t whakelouna_signature16_by(const uint16_t table[256], uint16_t seed, const uint8_t *octets, size_t length);
 uint32_t whakelouna_signature32_by(const uint32_t table[16], uint32_t seed, const uint8_t *octets, size_t length);
 
@@ -112,7 +118,7 @@ struct whakelouna_block_answer {
 };
 
 // The answer to a parameter block for a port.
-struct whakelouna_block_answer whakelouna_judge_block(const uint8_t *octets, size_t length, uint8_t port);
+struct whakelouna_block_answer whakelouna_judge_block(bool shift, const uint8_t *octets, size_t length, uint8_t port);
 
 // What an FS-Master reads of an SPDU: its length, and its fields (000 Table 32). Of another length than SPDUInLength: count 0, every mark false.
 struct whakelouna_response {
@@ -139,16 +145,16 @@ struct whakelouna_request {
     uint16_t unused;
 };
 
-// Each takes both signature tables. A build fills `out`, which overlaps with nothing else that is passed, and returns 0; where a length is
-// wrong it writes nothing and returns 7.
-struct whakelouna_response whakelouna_read_response_by(const uint16_t short_table[256], const uint32_t long_table[16],
+// Each takes both signature tables; with `shift` they are not read, whatever they hold. A build fills `out`, which overlaps with nothing else that is
+// passed, and returns 0; where a length is wrong it writes nothing and returns 7.
+struct whakelouna_response whakelouna_read_response_by(bool shift, const uint16_t short_table[256], const uint32_t long_table[16],
     struct whakelouna_params params, const uint8_t *octets, size_t length);
-struct whakelouna_request whakelouna_read_request_by(const uint16_t short_table[256], const uint32_t long_table[16],
+struct whakelouna_request whakelouna_read_request_by(bool shift, const uint16_t short_table[256], const uint32_t long_table[16],
     struct whakelouna_params params, const uint8_t *octets, size_t length);
-uint8_t whakelouna_build_request_by(const uint16_t short_table[256], const uint32_t long_table[16],
+uint8_t whakelouna_build_request_by(bool shift, const uint16_t short_table[256], const uint32_t long_table[16],
     struct whakelouna_params params, uint8_t MCount, bool setSD, bool ChFAckReq,
     const uint8_t *process, size_t process_length, uint8_t *out, size_t out_length);
-uint8_t whakelouna_build_response_by(const uint16_t short_table[256], const uint32_t long_table[16],
+uint8_t whakelouna_build_response_by(bool shift, const uint16_t short_table[256], const uint32_t long_table[16],
     struct whakelouna_params params, bool responded, uint8_t DCount_i, bool SDset, bool DCommErr, bool DTimeout,
     const uint8_t *process, size_t process_length, uint8_t *out, size_t out_length);
 
@@ -285,13 +291,14 @@ struct whakelouna_device_told {
 struct whakelouna_bench whakelouna_new_bench(void);
 
 // A parameter block of any length, with its clock reading in ms.
-struct whakelouna_bench_told whakelouna_set_parameters(struct whakelouna_bench bench, uint8_t port, uint32_t at, const uint8_t *octets, size_t length);
+struct whakelouna_bench_told whakelouna_set_parameters(bool shift, struct whakelouna_bench bench, uint8_t port, uint32_t at,
+    const uint8_t *octets, size_t length);
 
 // What happens at a port, with the clock reading. `safe` are zeros, as many as the SPDU has process octets: of the FS-Master's incoming SPDU
 // in a response and an operator call, of the FS-Device's in a request; a clock call takes both.
-struct whakelouna_bench_told whakelouna_receive_response(struct whakelouna_bench bench, uint8_t port, uint32_t at,
+struct whakelouna_bench_told whakelouna_receive_response(bool shift, struct whakelouna_bench bench, uint8_t port, uint32_t at,
     const uint8_t *spdu, size_t spdu_length, const uint8_t *safe, size_t safe_length);
-struct whakelouna_bench_told whakelouna_receive_request(struct whakelouna_bench bench, uint8_t port, uint32_t at,
+struct whakelouna_bench_told whakelouna_receive_request(bool shift, struct whakelouna_bench bench, uint8_t port, uint32_t at,
     const uint8_t *spdu, size_t spdu_length, const uint8_t *safe, size_t safe_length);
 struct whakelouna_bench_told whakelouna_clock(struct whakelouna_bench bench, uint8_t port, uint32_t at,
     const uint8_t *safe_in, size_t safe_in_length, const uint8_t *safe_out, size_t safe_out_length);
@@ -302,9 +309,9 @@ struct whakelouna_bench_told whakelouna_operator(struct whakelouna_bench bench, 
 // with nothing else that is passed, and returns 0; in a refusal it writes nothing and returns the answer's number. An image has SPDUOutLength +
 // OutputDataLength octets, of which OutputDataLength are other data, the FS-Device's SPDU has SPDUInLength; process octets are as many as the SPDU has, less 4
 // with FSP_ProtMode 1 and less 6 with 2.
-uint8_t whakelouna_compose(struct whakelouna_bench bench, uint8_t port, const uint8_t *process, size_t process_length,
+uint8_t whakelouna_compose(bool shift, struct whakelouna_bench bench, uint8_t port, const uint8_t *process, size_t process_length,
     const uint8_t *other, size_t other_length, uint8_t *octets, size_t length);
-uint8_t whakelouna_build_response(struct whakelouna_bench bench, uint8_t port, const uint8_t *process, size_t process_length,
+uint8_t whakelouna_build_response(bool shift, struct whakelouna_bench bench, uint8_t port, const uint8_t *process, size_t process_length,
     uint8_t *out, size_t out_length);
 
 // The FS-Master's incoming image, of SPDUInLength + InputDataLength octets.
@@ -316,7 +323,7 @@ struct whakelouna_split_told whakelouna_split(struct whakelouna_bench bench, uin
 // of the last one that the end took: else, and of 2, the safe values. Of any other number nothing. 8 and 9 come first; 10 where the mark is 0 and `spdu` has
 // another length than is configured; 7 for safe values of another length or not all zero, and for an `out` with too little room. 25 octets are always
 // enough. In a refusal it writes nothing. `spdu` is looked at with mark 0 alone.
-struct whakelouna_handed_told whakelouna_handed_on(struct whakelouna_bench bench, uint8_t port, bool device, uint8_t mark,
+struct whakelouna_handed_told whakelouna_handed_on(bool shift, struct whakelouna_bench bench, uint8_t port, bool device, uint8_t mark,
     const uint8_t *spdu, size_t spdu_length, const uint8_t *safe, size_t safe_length, uint8_t *out, size_t out_length);
 
 // What a port shows.
@@ -346,7 +353,7 @@ struct whakelouna_state whakelouna_session_start(void);
 // Uses the whole records of a chunk and writes the lines of those refused to the front of `out`, which overlaps with nothing else that is
 // passed; at most a record for every 64 octets of it, so that with fewer than 64 none is used. The next chunk begins with the octets that are not used up; as
 // a record has at most 264, a buffer of that many for the chunks is enough.
-struct whakelouna_fed_told whakelouna_session_feed(struct whakelouna_state state, const uint8_t *octets, size_t length,
+struct whakelouna_fed_told whakelouna_session_feed(bool shift, struct whakelouna_state state, const uint8_t *octets, size_t length,
     uint8_t *out, size_t out_length);
 
 // The end, where octets are left that are no whole record (`some`) or none are: writes what is printed there to the front of `out` and returns

@@ -1,11 +1,12 @@
 // The library's bench of eight ports (document 01) against a model of it: random histories of every call, and runs whose course
-// is known; and that no call reads what has a wrong length.
+// is known; and that no call reads what has a wrong length. A call that takes `shift` is made under each engine.
 // Argument: the seed of the random inputs, or none.
 
 mod as_model;
 mod bench_pair;
 mod bench_runs;
 mod comparisons;
+mod engines;
 mod good_blocks;
 #[path = "../bindings/rust/library.rs"]
 mod library;

@@ -1,13 +1,16 @@
 // The library's bench and the model's side by side: each call goes to both, and the answer, what is handed on, every octet lent
-// and the whole bench after it are compared.
+// and the whole bench after it are compared. A call that takes `shift` goes to the library under each engine.
 
 use crate::as_model::{device_read, master_read, point_read, port_read};
 use crate::comparisons::Comparisons;
+use crate::engines::by_engines;
 use crate::library::{self, Bench, BenchTold, ReplyTold};
 use crate::model::bench::{BenchModel, Reply, Shown};
 use crate::model::spdu::Direction;
 use crate::random::Random;
 
+/// In the place of the engine's text, for a call that takes no engine.
+const UNSIGNED: &str = "without a signature";
 /// The octets on either side of a buffer that is written.
 const GUARD: usize = 16;
 
@@ -37,6 +40,15 @@ impl Lent {
         let start = GUARD + random.below(8);
         let end = start + size;
         Lent { octets: random.octets(end + GUARD), start, end }
+    }
+
+    fn part(&self) -> &[u8] {
+        &self.octets[self.start..self.end]
+    }
+
+    /// The whole buffer with another part.
+    fn with(&self, part: &[u8]) -> Vec<u8> {
+        [&self.octets[..self.start], part, &self.octets[self.end..]].concat()
     }
 }
 
@@ -125,24 +137,28 @@ impl Pair {
         self.answers[usize::from(number)] += 1;
     }
 
-    /// `happened`: the call is no parameter block. `lent` are the SPDU and the safe values of the FS-Master, then those of the
-    /// FS-Device.
+    /// `told`: by each engine, or once of a call that takes none; the bench goes on from the first. `happened`: the call is no
+    /// parameter block. `lent` are the SPDU and the safe values of the FS-Master, then those of the FS-Device.
     fn follow(
         &mut self,
         call: &str,
         port: u8,
         expected: Reply,
-        told: BenchTold,
+        told: &[(&str, BenchTold)],
         happened: bool,
         lent: [[&[u8]; 2]; 2],
     ) -> Reply {
         self.count(expected.number);
-        self.compare(call, port, expected, reply_read(&told.reply));
         if expected.number == 0 {
             self.expect_again(port);
         }
-        self.compare_bench(call, port, &told.bench);
-        self.compare_untouched(call, port, expected.number, &told.bench);
+        for (engine, told) in told {
+            let call = format!("{call} {engine}");
+            self.compare(&call, port, expected, reply_read(&told.reply));
+            self.compare_bench(&call, port, &told.bench);
+            self.compare_untouched(&call, port, expected.number, &told.bench);
+        }
+        let (_, told) = told[0];
         self.bench = told.bench;
         for (end, mark) in [told.reply.master, told.reply.device].into_iter().enumerate() {
             if happened && expected.number == 0 {
@@ -201,18 +217,16 @@ impl Pair {
     fn handed_on(&mut self, call: &str, port: u8, end: usize, mark: u8, lent: [&[u8]; 2]) {
         let (_, length, _) = self.model.hand_on(port, end, mark, lent, &[0; 40]);
         let room = [length, length + 3, length.saturating_sub(1), 40][self.calls as usize % 4];
-        let mut octets: Vec<u8> =
-            (0..room + 2 * GUARD).map(|place| (11 + 5 * place) as u8).collect();
-        let inside = GUARD..GUARD + room;
-        let (number, count, later) =
-            self.model.hand_on(port, end, mark, lent, &octets[inside.clone()]);
-        let whole = [&octets[..GUARD], &later, &octets[inside.end..]].concat();
-        let [spdu, safe] = lent;
-        let out = &mut octets[inside.clone()];
-        let told = library::handed_on(&self.bench, port, end == 1, mark, spdu, safe, out);
+        let octets = (0..room + 2 * GUARD).map(|place| (11 + 5 * place) as u8).collect();
+        let out = Lent { octets, start: GUARD, end: GUARD + room };
+        let (number, count, later) = self.model.hand_on(port, end, mark, lent, out.part());
         self.copies[usize::from(number)] += 1;
-        let place = format!("handed_on after {call}, end {end}, mark {mark}");
-        self.compare(&place, port, (number, count, whole), (told.number, told.octets, octets));
+        let call = format!("handed_on after {call}, end {end}, mark {mark},");
+        let [spdu, safe] = lent;
+        self.compare_written(&call, port, &out, ((number, count), &later), |shift, bench, out| {
+            let told = library::handed_on(shift, bench, port, end == 1, mark, spdu, safe, out);
+            (told.number, told.octets)
+        });
     }
 
     /// Zeros of the right length at a port that runs, for the end whose safe values a call does not take.
@@ -224,53 +238,72 @@ impl Pair {
 
     pub fn set_parameters(&mut self, port: u8, at: u32, octets: &[u8]) -> Reply {
         let expected = self.model.set_parameters(port, at, octets);
-        let told = library::set_parameters(&self.bench, port, at, octets);
-        self.follow("set_parameters", port, expected, told, false, [[&[]; 2]; 2])
+        let told =
+            by_engines(|shift| library::set_parameters(shift, &self.bench, port, at, octets));
+        self.follow("set_parameters", port, expected, &told, false, [[&[]; 2]; 2])
     }
 
     pub fn receive_response(&mut self, port: u8, at: u32, spdu: &[u8], safe: &[u8]) -> Reply {
         let expected = self.model.receive_response(port, at, spdu, safe);
-        let told = library::receive_response(&self.bench, port, at, spdu, safe);
+        let told =
+            by_engines(|shift| library::receive_response(shift, &self.bench, port, at, spdu, safe));
         let zeros = self.zeros(port, Direction::Request);
-        self.follow("receive_response", port, expected, told, true, [[spdu, safe], [&[], &zeros]])
+        self.follow("receive_response", port, expected, &told, true, [[spdu, safe], [&[], &zeros]])
     }
 
     pub fn receive_request(&mut self, port: u8, at: u32, spdu: &[u8], safe: &[u8]) -> Reply {
         let expected = self.model.receive_request(port, at, spdu, safe);
-        let told = library::receive_request(&self.bench, port, at, spdu, safe);
+        let told =
+            by_engines(|shift| library::receive_request(shift, &self.bench, port, at, spdu, safe));
         let zeros = self.zeros(port, Direction::Response);
-        self.follow("receive_request", port, expected, told, true, [[&[], &zeros], [spdu, safe]])
+        self.follow("receive_request", port, expected, &told, true, [[&[], &zeros], [spdu, safe]])
     }
 
     pub fn clock(&mut self, port: u8, at: u32, safe_in: &[u8], safe_out: &[u8]) -> Reply {
         let expected = self.model.clock(port, at, safe_in, safe_out);
-        let told = library::clock(&self.bench, port, at, safe_in, safe_out);
-        self.follow("clock", port, expected, told, true, [[&[], safe_in], [&[], safe_out]])
+        let told = [(UNSIGNED, library::clock(&self.bench, port, at, safe_in, safe_out))];
+        self.follow("clock", port, expected, &told, true, [[&[], safe_in], [&[], safe_out]])
     }
 
     pub fn operator(&mut self, port: u8, at: u32, signals: [bool; 2], safe: &[u8]) -> Reply {
         let expected = self.model.operator(port, at, signals, safe);
-        let told = library::operator(&self.bench, port, at, signals, safe);
+        let told = [(UNSIGNED, library::operator(&self.bench, port, at, signals, safe))];
         let zeros = self.zeros(port, Direction::Request);
-        self.follow("operator", port, expected, told, true, [[&[], safe], [&[], &zeros]])
+        self.follow("operator", port, expected, &told, true, [[&[], safe], [&[], &zeros]])
     }
 
-    /// The whole buffer is compared. The part lent, where the call was taken.
+    /// What the call tells and the whole buffer are compared, by each engine. `expected`: what is told, and the part lent after it.
+    fn compare_written<T: PartialEq + std::fmt::Debug>(
+        &mut self,
+        call: &str,
+        port: u8,
+        lent: &Lent,
+        expected: (T, &[u8]),
+        found: impl Fn(bool, &Bench, &mut [u8]) -> T,
+    ) {
+        let (told, part) = expected;
+        let whole = lent.with(part);
+        let by_engine = by_engines(|shift| {
+            let mut buffer = lent.octets.clone();
+            (found(shift, &self.bench, &mut buffer[lent.start..lent.end]), buffer)
+        });
+        for (engine, (found, buffer)) in by_engine {
+            self.compare(&format!("{call} {engine}"), port, (&told, &whole), (&found, &buffer));
+        }
+    }
+
+    /// The part lent, where the call was taken.
     fn written(
         &mut self,
         call: &str,
         port: u8,
         lent: Lent,
         expected: impl FnOnce(&BenchModel, &[u8]) -> (u8, Vec<u8>),
-        found: impl FnOnce(&Bench, &mut [u8]) -> u8,
+        found: impl Fn(bool, &Bench, &mut [u8]) -> u8,
     ) -> Option<Vec<u8>> {
-        let Lent { octets, start, end } = lent;
-        let (number, part) = expected(&self.model, &octets[start..end]);
-        let whole = [&octets[..start], &part, &octets[end..]].concat();
-        let mut buffer = octets;
-        let found = found(&self.bench, &mut buffer[start..end]);
+        let (number, part) = expected(&self.model, lent.part());
         self.count(number);
-        self.compare(call, port, (number, whole), (found, buffer));
+        self.compare_written(call, port, &lent, (number, &part), found);
         (number == 0).then_some(part)
     }
 
@@ -286,7 +319,7 @@ impl Pair {
             port,
             lent,
             |model, image| model.compose(port, process, other, image),
-            |bench, image| library::compose(bench, port, process, other, image),
+            |shift, bench, image| library::compose(shift, bench, port, process, other, image),
         )
     }
 
@@ -296,7 +329,7 @@ impl Pair {
             port,
             lent,
             |model, buffer| model.build_response(port, process, buffer),
-            |bench, buffer| library::build_response(bench, port, process, buffer),
+            |shift, bench, buffer| library::build_response(shift, bench, port, process, buffer),
         )
     }
 

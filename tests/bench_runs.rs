@@ -3,6 +3,7 @@
 
 use crate::bench_pair::{Lent, Pair};
 use crate::block_for;
+use crate::engines::ENGINES;
 use crate::library::{self, ReplyTold, Totals};
 use crate::model::bench::Reply;
 use crate::model::histogram::{Earlier, Point, LIMIT};
@@ -281,12 +282,17 @@ impl Runs<'_> {
             device_releases: false,
             unused: [0; 2],
         };
-        for told in [
-            library::receive_response(&bench, port, self.at, &response, &safe_in),
-            library::receive_request(&bench, port, self.at, &request, &safe_out),
+        let responses = ENGINES.map(|shift| {
+            library::receive_response(shift, &bench, port, self.at, &response, &safe_in)
+        });
+        let requests = ENGINES.map(|shift| {
+            library::receive_request(shift, &bench, port, self.at, &request, &safe_out)
+        });
+        let others = [
             library::clock(&bench, port, self.at, &safe_in, &safe_out),
             library::operator(&bench, port, self.at, [false, true], &safe_in),
-        ] {
+        ];
+        for told in responses.into_iter().chain(requests).chain(others) {
             self.pair.compare("stopped", port, (refused, &bench), (told.reply, &told.bench));
         }
         let lent = Lent::new(self.random, request.len());

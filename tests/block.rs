@@ -3,6 +3,7 @@
 
 mod as_model;
 mod comparisons;
+mod engines;
 mod good_blocks;
 #[path = "../bindings/rust/library.rs"]
 mod library;
@@ -12,6 +13,7 @@ mod random;
 
 use as_model::numbers;
 use comparisons::{octets_text, Comparisons};
+use engines::{engine_text, ENGINES};
 use good_blocks::{
     describe, good, most_other, process_bounds, Block, Kind, INPUT, KINDS, OUTPUT, VIOLATIONS,
 };
@@ -49,8 +51,8 @@ const ANSWERS: [(u8, usize); 25] = [
     (12, 0),
 ];
 
-fn library_answer(octets: &[u8], port: u8) -> Answer {
-    let answer = library::judge_block(octets, port);
+fn library_answer(shift: bool, octets: &[u8], port: u8) -> Answer {
+    let answer = library::judge_block(shift, octets, port);
     Answer {
         number: answer.number,
         offset: answer.offset.into(),
@@ -93,9 +95,11 @@ impl Test {
 
     fn compare(&mut self, octets: &[u8], port: u8) -> (u8, usize) {
         let expected = judge(octets, port);
-        self.comparisons.compare(expected, library_answer(octets, port), || {
-            format!("port {port}, {}", octets_text(octets))
-        });
+        for shift in ENGINES {
+            self.comparisons.compare(&expected, &library_answer(shift, octets, port), || {
+                format!("{}, port {port}, {}", engine_text(shift), octets_text(octets))
+            });
+        }
         let answer = (expected.number, expected.offset);
         *self.arisen.entry(answer).or_default() += 1;
         answer

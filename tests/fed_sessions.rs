@@ -1,8 +1,9 @@
-// Sessions fed to the library, whole and in chunks: what each call uses up, writes and stops at, every octet of the buffers lent, the text and
-// the bench at the end, against the model.
+// Sessions fed to the library, whole and in chunks, under each engine: what each call uses up, writes and stops at, every octet of the buffers
+// lent, the text and the bench at the end, against the model.
 
 use crate::as_model::port_read;
 use crate::comparisons::{octets_text, Comparisons};
+use crate::engines::{engine_text, ENGINES};
 use crate::library::{session_feed, session_finish, session_start, State};
 use crate::model::session::{parts, stop, Parts, Run, Stop};
 use crate::random::Random;
@@ -50,8 +51,9 @@ impl Course<'_> {
     }
 }
 
-/// How far the library has come, and what it wrote.
+/// How far the library has come under an engine, and what it wrote.
 struct Place {
+    shift: bool,
     state: State,
     taken: usize,
     text: Vec<u8>,
@@ -95,8 +97,8 @@ impl Feeder {
         }
     }
 
-    /// A session whole and in chunks, behind so many records that were refused. What it prints.
-    pub fn feed(&mut self, session: &[u8], earlier: u64) -> String {
+    /// A session whole and in chunks, behind so many records that were refused. What it prints, by each engine.
+    pub fn feed(&mut self, session: &[u8], earlier: u64) -> [String; 2] {
         let Parts { records, rest } = parts(session);
         let mut run = Run::after(earlier);
         records.iter().for_each(|record| run.take(record));
@@ -104,16 +106,23 @@ impl Feeder {
         let closing = run.closing(!rest.is_empty());
         let course = Course { session, ends: &ends, run: &run, closing: &closing };
 
-        let enough = LINE * ends.len() + self.random.below(LINE);
-        let whole = self.run(&course, &[session.len()], &[enough]);
-        self.compare_bench(&course, &whole);
-        let (chunks, rooms) = (self.chunks(session.len()), self.rooms(ends.len()));
-        let in_chunks = self.run(&course, &chunks, &rooms);
-        let inputs = || format!("{}, chunks to {chunks:?}", octets_text(session));
+        self.sessions += 1;
+        ENGINES.map(|shift| self.feed_by(shift, &course))
+    }
+
+    fn feed_by(&mut self, shift: bool, course: &Course) -> String {
+        let (session, records) = (course.session, course.ends.len());
+        let enough = LINE * records + self.random.below(LINE);
+        let whole = self.run(shift, course, &[session.len()], &[enough]);
+        self.compare_bench(course, &whole);
+        let (chunks, rooms) = (self.chunks(session.len()), self.rooms(records));
+        let in_chunks = self.run(shift, course, &chunks, &rooms);
+        let engine = engine_text(shift);
+        let inputs = || format!("{engine}, {}, chunks to {chunks:?}", octets_text(session));
         self.comparisons.compare(true, whole.state == in_chunks.state, inputs);
 
         let text = String::from_utf8_lossy(&whole.text).into_owned();
-        self.count(&whole.state, &text, &run);
+        self.count(&whole.state, &text, course.run);
         text
     }
 
@@ -142,12 +151,17 @@ impl Feeder {
         let whole = course_of(session.len());
         let enough = [LINE * (ends.len() + 1)];
         for end in 0..=session.len() {
-            self.run(&course_of(end), &[end], &enough);
-            self.run(&whole, &[end, session.len()], &enough);
+            let torn = course_of(end);
+            for shift in ENGINES {
+                self.run(shift, &torn, &[end], &enough);
+                self.run(shift, &whole, &[end, session.len()], &enough);
+            }
             self.cuts += 1;
         }
         let every: Vec<usize> = (0..=session.len()).collect();
-        self.run(&whole, &every, &enough);
+        for shift in ENGINES {
+            self.run(shift, &whole, &every, &enough);
+        }
     }
 
     /// Where each chunk ends, of some octets.
@@ -170,10 +184,10 @@ impl Feeder {
     }
 
     /// As `portbench` does: each chunk behind what the last call left of the one before, until a record is bad; then the end.
-    fn run(&mut self, course: &Course, chunks: &[usize], rooms: &[usize]) -> Place {
+    fn run(&mut self, shift: bool, course: &Course, chunks: &[usize], rooms: &[usize]) -> Place {
         let earlier = course.run.counts(0);
         let state = State { records: earlier[0], refused: earlier[1], ..session_start() };
-        let mut place = Place { state, taken: 0, text: Vec::new() };
+        let mut place = Place { shift, state, taken: 0, text: Vec::new() };
         let mut to = 0;
         'chunks: for &end in chunks {
             to = end;
@@ -202,12 +216,13 @@ impl Feeder {
         let expected = (course.run.counts(taken), used, lines.len(), stop as u8);
         let fronted = lent.fronted(&lines);
 
-        let told = session_feed(&place.state, chunk, lent.part());
+        let told = session_feed(place.shift, &place.state, chunk, lent.part());
         let state = told.state;
         let found = ([state.records, state.refused], told.used, told.written, told.stop);
         let inputs = || {
-            let from = course.end(place.taken);
-            format!("{}, fed from {from} to {to}, room {room}", octets_text(course.session))
+            let (engine, from) = (engine_text(place.shift), course.end(place.taken));
+            let session = octets_text(course.session);
+            format!("{engine}, {session}, fed from {from} to {to}, room {room}")
         };
         self.comparisons.compare(expected, found, inputs);
         self.comparisons.compare(&fronted, &lent.octets, inputs);
@@ -223,7 +238,8 @@ impl Feeder {
         let small = (self.random.below(4) == 0).then(|| self.random.below(CLOSING));
         let enough = CLOSING + self.random.below(2);
         let some = course.end(place.taken) < to;
-        let inputs = || format!("{}, read to {to}", octets_text(course.session));
+        let engine = engine_text(place.shift);
+        let inputs = || format!("{engine}, {}, read to {to}", octets_text(course.session));
         for room in small.into_iter().chain([enough]) {
             let text = if room < CLOSING { "" } else { course.closing };
             let mut lent = Lent::new(&mut self.random, room);
@@ -237,16 +253,16 @@ impl Feeder {
     }
 
     fn compare_bench(&mut self, course: &Course, place: &Place) {
+        let engine = engine_text(place.shift);
         for port in 1..=8 {
             let found = port_read(&place.state.bench.ports[usize::from(port) - 1]);
-            let inputs = || format!("{}, port {port}", octets_text(course.session));
+            let inputs = || format!("{engine}, {}, port {port}", octets_text(course.session));
             self.comparisons.compare(course.run.bench.shown(port), found, inputs);
         }
     }
 
     /// The rows are the model's, as no text tells them.
     fn count(&mut self, state: &State, text: &str, run: &Run) {
-        self.sessions += 1;
         self.samples +=
             state.bench.ports.iter().map(|p| u64::from(p.live.totals.total)).sum::<u64>();
         for line in text.lines().filter(|line| line.starts_with("r ")) {

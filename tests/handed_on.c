@@ -1,5 +1,5 @@
 // The call that hands on, from C: by what it is told alone it writes nothing but zeros. Argument: a session whose first port comes to release
-// (examples/sound-port.session). Its records up to the first fresh SPDU are taken; then each call below is tried.
+// (examples/sound-port.session). Its records up to the first fresh SPDU are taken and each call below is tried there, by the tables and by the bit shift.
 #include <stdio.h>
 #include <string.h>
 
@@ -13,6 +13,7 @@ static const uint8_t zeros[ROOM];
 static int tried, failed;
 
 struct lent {
+    bool shift;
     uint8_t port;
     bool device;
     uint8_t mark;
@@ -27,17 +28,17 @@ static void expect(const char *name, struct whakelouna_bench bench, struct lent 
     memset(out, UNTOUCHED, ROOM);
     memset(expected, UNTOUCHED, ROOM);
     memcpy(expected, part, length);
-    struct whakelouna_handed_told told = whakelouna_handed_on(bench, lent.port, lent.device, lent.mark, lent.spdu, lent.spdu_length,
-        lent.safe, lent.safe_length, out, lent.room);
+    struct whakelouna_handed_told told = whakelouna_handed_on(lent.shift, bench, lent.port, lent.device, lent.mark,
+        lent.spdu, lent.spdu_length, lent.safe, lent.safe_length, out, lent.room);
     tried++;
     if (told.number != number || told.octets != length || memcmp(out, expected, ROOM) != 0) {
-        printf("handed_on: %s: answer %u, %zu octets\n", name, told.number, told.octets);
+        printf("handed_on: %s, %s: answer %u, %zu octets\n", name, lent.shift ? "by shift" : "by tables", told.number, told.octets);
         failed++;
     }
 }
 
 // Takes records until a response at a port is handed on, and tries the call there.
-static int run(const uint8_t *s, size_t size)
+static int run(bool shift, const uint8_t *s, size_t size)
 {
     struct whakelouna_bench bench = whakelouna_new_bench();
     size_t at = 0;
@@ -50,14 +51,14 @@ static int run(const uint8_t *s, size_t size)
         struct whakelouna_params params = bench.ports[port - 1].setting.params;
         size_t process = length - (params.FSP_ProtMode == 1 ? 4 : 6);
         struct whakelouna_bench_told told = kind == 1
-            ? whakelouna_set_parameters(bench, port, clock, octets, length)
-            : whakelouna_receive_response(bench, port, clock, octets, length, zeros, process);
+            ? whakelouna_set_parameters(shift, bench, port, clock, octets, length)
+            : whakelouna_receive_response(shift, bench, port, clock, octets, length, zeros, process);
         bench = told.bench;
         at += HEADER + length;
         if (kind != 2 || told.reply.master != 0) {
             continue;
         }
-        struct lent lent = {port, false, 0, octets, zeros, length, process, ROOM};
+        struct lent lent = {shift, port, false, 0, octets, zeros, length, process, ROOM};
         uint8_t other[ROOM], damaged[ROOM], ones[ROOM];
         memset(ones, 0xFF, ROOM);
         memcpy(damaged, octets, length);
@@ -111,7 +112,7 @@ int main(int count, char **arguments)
     }
     size_t size = fread(session, 1, sizeof session, file);
     fclose(file);
-    int none = run(session, size);
+    int none = run(false, session, size) | run(true, session, size);
     printf("handed_on: %d calls tried, %d differ\n", tried, failed);
     return none || failed;
 }

@@ -1,10 +1,11 @@
-// Sessions fed to the library, whole, in chunks and cut at every octet, against the model. As lines of text: every session, also one that is
-// torn or malformed, comes back from the lines that show it. What the model prints is held to document 01's examples, to those in examples/,
-// and to the codes among the lines.
+// Sessions fed to the library by each engine, whole, in chunks and cut at every octet, against the model. As lines of text: every session, also
+// one that is torn or malformed, comes back from the lines that show it. What the model prints is held to document 01's examples, to those in
+// examples/, and to the codes among the lines.
 // Argument: the seed of the random inputs, or none.
 
 mod as_model;
 mod comparisons;
+mod engines;
 mod fed_sessions;
 mod good_blocks;
 #[path = "../bindings/rust/library.rs"]
@@ -83,8 +84,9 @@ fn examples_of_01(feeder: &mut Feeder) {
     for (session, text) in examples {
         let inputs = || octets_text(&session);
         feeder.comparisons.compare(text, printed(&session).as_str(), inputs);
-        let found = feeder.feed(&session, 0);
-        feeder.comparisons.compare(text, found.as_str(), inputs);
+        for found in feeder.feed(&session, 0) {
+            feeder.comparisons.compare(text, found.as_str(), inputs);
+        }
         compare_lines(&mut feeder.comparisons, &session);
     }
 }
@@ -104,8 +106,9 @@ fn examples(feeder: &mut Feeder) {
         let out = read("out");
         feeder.comparisons.compare(Ok(&session), make(&text).as_ref(), name);
         feeder.comparisons.compare(&out[..], printed(&session).as_bytes(), name);
-        let found = feeder.feed(&session, 0);
-        feeder.comparisons.compare(&out[..], found.as_bytes(), name);
+        for found in feeder.feed(&session, 0) {
+            feeder.comparisons.compare(&out[..], found.as_bytes(), name);
+        }
         compare_lines(&mut feeder.comparisons, &session);
     }
 }
@@ -195,10 +198,12 @@ fn feed_all(feeder: &mut Feeder) {
         let most = FED_RECORDS[usize::from(feeder.random.below(10) == 0)];
         let records = feeder.random.below(most);
         let mut session = session(&mut feeder.random, records);
-        let text = feeder.feed(&session, 0);
+        let texts = feeder.feed(&session, 0);
         move_clock(&mut feeder.random, &mut session);
         let moved = feeder.feed(&session, 0);
-        feeder.comparisons.compare(text, moved, || octets_text(&session));
+        for (text, moved) in texts.into_iter().zip(moved) {
+            feeder.comparisons.compare(text, moved, || octets_text(&session));
+        }
         for _ in 0..FED_DAMAGES {
             damage(&mut feeder.random, &mut session);
             let earlier = earlier(&mut feeder.random);
@@ -239,7 +244,9 @@ fn earlier(random: &mut Random) -> u64 {
 /// are not among the codes.
 fn finish(mut feeder: Feeder) {
     let Feeder { sessions, cuts, calls, samples, .. } = feeder;
-    println!("sessions: {sessions} fed whole and in chunks, {cuts} cuts, {calls} calls");
+    println!(
+        "sessions: {sessions} fed whole and in chunks, {cuts} cuts, by each engine; {calls} calls"
+    );
     println!("sessions: {samples} samples");
     for (code, &count) in feeder.codes.iter().enumerate().skip(1) {
         println!("sessions: code {code} given {count} times");

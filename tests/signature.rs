@@ -1,4 +1,4 @@
-// The library's signatures (000 Annex D) against long division, over many inputs.
+// The library's signatures (000 Annex D), by table and by bit shift, against long division, over many inputs.
 // Argument: the seed of the random inputs, or none.
 
 mod comparisons;
@@ -25,7 +25,9 @@ struct Width {
     /// number before the library fills the table.
     guarded_table: fn(u32) -> Vec<u32>,
     step: fn(u32, u8) -> u32,
+    step_by_shift: fn(u32, u8) -> u32,
     plain: fn(u32, &[u8]) -> u32,
+    by_shift: fn(u32, &[u8]) -> u32,
     lent: fn(&[u32], u32, &[u8]) -> u32,
 }
 
@@ -35,7 +37,9 @@ const WIDTHS: [Width; 2] = [
         index_bits: 8,
         guarded_table: guarded_table16,
         step: |register, octet| library::step16(register as u16, octet).into(),
+        step_by_shift: |register, octet| library::step16_by_shift(register as u16, octet).into(),
         plain: |seed, octets| library::signature16(seed as u16, octets).into(),
+        by_shift: |seed, octets| library::signature16_by_shift(seed as u16, octets).into(),
         lent: |table, seed, octets| {
             let table: [u16; 256] = std::array::from_fn(|index| table[index] as u16);
             library::signature16_by(&table, seed as u16, octets).into()
@@ -46,7 +50,9 @@ const WIDTHS: [Width; 2] = [
         index_bits: 4,
         guarded_table: guarded_table32,
         step: library::step32,
+        step_by_shift: library::step32_by_shift,
         plain: library::signature32,
+        by_shift: library::signature32_by_shift,
         lent: |table, seed, octets| {
             library::signature32_by(table.try_into().unwrap(), seed, octets)
         },
@@ -180,7 +186,7 @@ impl Test<'_> {
                 self.comparisons.compare(expected, signature(generator, seed, octets), || {
                     format!("model, {width} bits, seed {seed}, {}", octets_text(octets))
                 });
-                self.both_forms(expected, seed, octets);
+                self.compare_forms(expected, seed, octets);
             }
         }
     }
@@ -210,11 +216,13 @@ impl Test<'_> {
         registers.extend((0..300).map(|_| self.width.register(self.random)));
         for register in registers {
             for octet in 0..=u8::MAX {
-                let expected = signature(self.width.generator, register, &[octet]);
-                let found = (self.width.step)(register, octet);
-                self.comparisons.compare(expected, found, || {
-                    format!("step, {} bits, {register:#x}, octet {octet:#x}", self.width.bits())
-                });
+                let Width { generator, step, step_by_shift, .. } = self.width;
+                let expected = signature(*generator, register, &[octet]);
+                for (form, step) in [("step", step), ("step by shift", step_by_shift)] {
+                    self.comparisons.compare(expected, step(register, octet), || {
+                        format!("{form}, {} bits, {register:#x}, octet {octet:#x}", generator.width)
+                    });
+                }
             }
         }
     }
@@ -239,20 +247,27 @@ impl Test<'_> {
 
     fn each_seed(&mut self, octets: &[u8]) {
         for seed in self.width.seeds(self.random) {
-            self.both_forms(signature(self.width.generator, seed, octets), seed, octets);
+            self.compare_forms(signature(self.width.generator, seed, octets), seed, octets);
         }
     }
 
-    fn both_forms(&mut self, expected: u32, seed: u32, octets: &[u8]) {
+    /// The library's signature in each form.
+    fn forms(&self, seed: u32, octets: &[u8]) -> [(&'static str, u32); 3] {
+        let Width { plain, by_shift, lent, .. } = self.width;
+        [
+            ("plain", plain(seed, octets)),
+            ("by lent table", lent(&self.table, seed, octets)),
+            ("by shift", by_shift(seed, octets)),
+        ]
+    }
+
+    fn compare_forms(&mut self, expected: u32, seed: u32, octets: &[u8]) {
         let bits = self.width.bits();
-        let plain = (self.width.plain)(seed, octets);
-        self.comparisons.compare(expected, plain, || {
-            format!("plain signature, {bits} bits, seed {seed:#x}, {}", octets_text(octets))
-        });
-        let lent = (self.width.lent)(&self.table, seed, octets);
-        self.comparisons.compare(expected, lent, || {
-            format!("signature by lent table, {bits} bits, seed {seed:#x}, {}", octets_text(octets))
-        });
+        for (form, found) in self.forms(seed, octets) {
+            self.comparisons.compare(expected, found, || {
+                format!("signature {form}, {bits} bits, seed {seed:#x}, {}", octets_text(octets))
+            });
+        }
     }
 
     /// The lent form answers for any table, so it is held to the lookup and not to the division.
@@ -280,11 +295,11 @@ impl Test<'_> {
                 let mut buffer = self.random.octets(end + 16);
                 let seed = self.width.register(self.random);
                 let expected = signature(self.width.generator, seed, &buffer[start..end]);
-                self.both_forms(expected, seed, &buffer[start..end]);
+                self.compare_forms(expected, seed, &buffer[start..end]);
                 for place in (0..start).chain(end..end + 16) {
                     buffer[place] = !buffer[place];
                 }
-                self.both_forms(expected, seed, &buffer[start..end]);
+                self.compare_forms(expected, seed, &buffer[start..end]);
             }
         }
     }
@@ -308,17 +323,17 @@ impl Test<'_> {
         let flipped = message.flipped(&flips, generator.width);
 
         let expected = divides(generator, &flips);
-        let plain = (self.width.plain)(seed, &flipped.octets) == flipped.signature;
-        let lent = (self.width.lent)(&self.table, seed, &flipped.octets) == flipped.signature;
         let inputs = || {
             let (name, bits) = (kind.name, generator.width);
             let (before, after) = (message.text(), flipped.text());
             format!("passes after {name}, {bits} bits, seed {seed:#x}, {before}, now {after}")
         };
-        self.comparisons.compare(expected, plain, || format!("plain, {}", inputs()));
-        self.comparisons.compare(expected, lent, || format!("lent, {}", inputs()));
-        if let Some(known) = kind.passes {
-            self.comparisons.compare(known, plain, || format!("known, {}", inputs()));
+        for (form, found) in self.forms(seed, &flipped.octets) {
+            let passes = found == flipped.signature;
+            self.comparisons.compare(expected, passes, || format!("{form}, {}", inputs()));
+            if let Some(known) = kind.passes {
+                self.comparisons.compare(known, passes, || format!("known, {form}, {}", inputs()));
+            }
         }
     }
 }
@@ -329,6 +344,9 @@ fn every_short_step(comparisons: &mut Comparisons) {
             let expected = by_shifts(register, octet);
             comparisons.compare(expected, library::step16(register, octet), || {
                 format!("step, 16 bits, {register:#x}, octet {octet:#x}")
+            });
+            comparisons.compare(expected, library::step16_by_shift(register, octet), || {
+                format!("step by shift, 16 bits, {register:#x}, octet {octet:#x}")
             });
         }
     }

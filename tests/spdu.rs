@@ -2,6 +2,7 @@
 // Argument: the seed of the random inputs, or none.
 
 mod comparisons;
+mod engines;
 mod flips;
 #[path = "../bindings/rust/library.rs"]
 mod library;
@@ -10,6 +11,7 @@ mod model;
 mod random;
 
 use comparisons::{octets_text, Comparisons};
+use engines::{engine_text, lent_tables, ENGINES};
 use library::{Params, Tables};
 use model::signature::{add, bits_number, divides, octet_bits};
 use model::spdu::{Direction, Fields, Format, Values};
@@ -57,10 +59,17 @@ fn parameters(random: &mut Random, format: &Format) -> Params {
     }
 }
 
-fn library_read(tables: &Tables, direction: Direction, params: Params, spdu: &[u8]) -> Fields {
+/// What the library signs by, and the tables that are lent to it.
+struct Engine {
+    shift: bool,
+    tables: Tables,
+}
+
+fn library_read(engine: &Engine, direction: Direction, params: Params, spdu: &[u8]) -> Fields {
+    let Engine { shift, tables } = engine;
     match direction {
         Direction::Request => {
-            let read = tables.read_request(params, spdu);
+            let read = tables.read_request(*shift, params, spdu);
             Fields {
                 length: read.length,
                 count: read.mcount,
@@ -71,7 +80,7 @@ fn library_read(tables: &Tables, direction: Direction, params: Params, spdu: &[u
             }
         }
         Direction::Response => {
-            let read = tables.read_response(params, spdu);
+            let read = tables.read_response(*shift, params, spdu);
             Fields {
                 length: read.length,
                 count: read.dcount_i,
@@ -85,19 +94,22 @@ fn library_read(tables: &Tables, direction: Direction, params: Params, spdu: &[u
 }
 
 fn library_build(
-    tables: &Tables,
+    engine: &Engine,
     direction: Direction,
     params: Params,
     values: &Values,
     process: &[u8],
     out: &mut [u8],
 ) -> u8 {
+    let Engine { shift, tables } = engine;
     let Values { responded, count, marks } = *values;
     match direction {
         Direction::Request => {
-            tables.build_request(params, count, [marks[1], marks[2]], process, out)
+            tables.build_request(*shift, params, count, [marks[1], marks[2]], process, out)
         }
-        Direction::Response => tables.build_response(params, responded, count, marks, process, out),
+        Direction::Response => {
+            tables.build_response(*shift, params, responded, count, marks, process, out)
+        }
     }
 }
 
@@ -108,7 +120,7 @@ fn flipped(spdu: &[u8], flips: &[bool]) -> Vec<u8> {
 }
 
 struct Test {
-    tables: Tables,
+    engines: [Engine; 2],
     comparisons: Comparisons,
     random: Random,
 }
@@ -152,23 +164,30 @@ impl Test {
         format.signed(&contents)
     }
 
-    fn compare_read(&mut self, format: &Format, spdu: &[u8]) -> Fields {
+    /// Whether the signature holds, by each engine.
+    fn compare_read(&mut self, format: &Format, spdu: &[u8]) -> [bool; 2] {
         let params = parameters(&mut self.random, format);
-        let found = library_read(&self.tables, format.direction, params, spdu);
-        self.comparisons.compare(&format.read(spdu), &found, || {
-            format!("read by {format:?}, {}", octets_text(spdu))
-        });
-        found
+        let expected = format.read(spdu);
+        let [by_tables, by_shift] = &self.engines;
+        [by_tables, by_shift].map(|engine| {
+            let found = library_read(engine, format.direction, params, spdu);
+            self.comparisons.compare(&expected, &found, || {
+                format!("{}, read by {format:?}, {}", engine_text(engine.shift), octets_text(spdu))
+            });
+            found.signature_holds
+        })
     }
 
     /// Whether the signature holds where that is known without the model's check.
     fn compare_known(&mut self, known: bool, format: &Format, spdu: &[u8]) {
-        let found = self.compare_read(format, spdu).signature_holds;
-        self.comparisons
-            .compare(known, found, || format!("known check, {format:?}, {}", octets_text(spdu)));
+        for found in self.compare_read(format, spdu) {
+            self.comparisons.compare(known, found, || {
+                format!("known check, {format:?}, {}", octets_text(spdu))
+            });
+        }
     }
 
-    /// Builds into a part of a buffer, and compares the whole buffer. Returns the part.
+    /// Builds into a part of a buffer, by each engine, and compares the whole buffer. Returns the part.
     fn compare_build(
         &mut self,
         format: &Format,
@@ -182,13 +201,15 @@ impl Test {
         let before = self.random.octets(end + 16);
         let (number, part) = format.build(values, process, &before[start..end]);
         let expected = [&before[..start], &part, &before[end..]].concat();
-        let mut buffer = before;
-        let out = &mut buffer[start..end];
-        let found = library_build(&self.tables, format.direction, params, values, process, out);
-        self.comparisons.compare((number, expected), (found, buffer), || {
-            let process = octets_text(process);
-            format!("{format:?}, {values:?}, {process}, into {start} to {end}")
-        });
+        for engine in &self.engines {
+            let mut buffer = before.clone();
+            let out = &mut buffer[start..end];
+            let found = library_build(engine, format.direction, params, values, process, out);
+            self.comparisons.compare((number, &expected), (found, &buffer), || {
+                let (engine, process) = (engine_text(engine.shift), octets_text(process));
+                format!("{engine}, {format:?}, {values:?}, {process}, into {start} to {end}")
+            });
+        }
         part
     }
 
@@ -314,16 +335,18 @@ impl Test {
         known: Option<bool>,
     ) {
         let flipped = flipped(spdu, flips);
-        let holds = self.compare_read(format, &flipped).signature_holds;
+        let holds = self.compare_read(format, &flipped);
         let computed = [spdu, &flipped].map(|spdu| format.computed(format.contents(spdu)));
         if computed.contains(&0) {
             return;
         }
         for passes in known.into_iter().chain([divides(format.generator(), flips)]) {
-            self.comparisons.compare(passes, holds, || {
-                let (before, after) = (octets_text(spdu), octets_text(&flipped));
-                format!("passes after flips, {format:?}, {before}, now {after}")
-            });
+            for found in holds {
+                self.comparisons.compare(passes, found, || {
+                    let (before, after) = (octets_text(spdu), octets_text(&flipped));
+                    format!("passes after flips, {format:?}, {before}, now {after}")
+                });
+            }
         }
     }
 
@@ -357,11 +380,9 @@ impl Test {
 }
 
 fn main() {
-    let mut test = Test {
-        tables: Tables::new(),
-        comparisons: Comparisons::new("spdu"),
-        random: Random::from_arguments("spdu"),
-    };
+    let mut random = Random::from_arguments("spdu");
+    let engines = ENGINES.map(|shift| Engine { shift, tables: lent_tables(&mut random, shift) });
+    let mut test = Test { engines, comparisons: Comparisons::new("spdu"), random };
     test.run();
     test.comparisons.finish();
 }

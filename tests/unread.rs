@@ -3,6 +3,7 @@
 
 use crate::block_for;
 use crate::comparisons::Comparisons;
+use crate::engines::{engine_text, lent_tables, ENGINES};
 use crate::library::{self, Bench, BenchTold, Params, Tables};
 use crate::model::block::{sizes, LENGTH};
 use crate::random::Random;
@@ -58,6 +59,8 @@ fn way(params: &Params, spdu: u8, other: u8) -> Way {
 
 pub struct Unread<'a> {
     comparisons: &'a mut Comparisons,
+    shift: bool,
+    tables: &'a Tables,
     pages: *mut u8,
     bench: Bench,
     params: Params,
@@ -66,11 +69,15 @@ pub struct Unread<'a> {
 pub fn run(comparisons: &mut Comparisons, random: &mut Random) {
     println!("bench: what has a wrong length now lies in pages that can't be read");
     let pages = pages();
-    for _ in 0..BLOCKS {
-        let block = block_for(random, RUNNING, 100);
-        let bench = library::set_parameters(&library::new_bench(), RUNNING, 0, &block).bench;
-        let params = bench.ports[usize::from(RUNNING) - 1].setting.params;
-        Unread { comparisons, pages, bench, params }.run();
+    for shift in ENGINES {
+        let tables = &lent_tables(random, shift);
+        for _ in 0..BLOCKS {
+            let block = block_for(random, RUNNING, 100);
+            let new = library::new_bench();
+            let bench = library::set_parameters(shift, &new, RUNNING, 0, &block).bench;
+            let params = bench.ports[usize::from(RUNNING) - 1].setting.params;
+            Unread { comparisons, shift, tables, pages, bench, params }.run();
+        }
     }
 }
 
@@ -100,9 +107,10 @@ impl Unread<'_> {
 
     /// The call at numbers that no port has, at a port that does not run, and at the one that runs.
     fn numbers(&mut self, name: &str, due: u8, call: impl Fn(&Bench, u8) -> u8) {
+        let engine = engine_text(self.shift);
         for (port, number) in [(0, 8), (9, 8), (255, 8), (4, 9), (RUNNING, due)] {
             let found = call(&self.bench, port);
-            self.comparisons.compare(number, found, || format!("{name}, port {port}"));
+            self.comparisons.compare(number, found, || format!("{name}, port {port}, {engine}"));
         }
     }
 
@@ -131,8 +139,8 @@ impl Unread<'_> {
     }
 
     fn block(&mut self, port: u8, octets: &[u8], number: u8) {
-        let told = library::set_parameters(&self.bench, port, 1, octets);
-        let judged = library::judge_block(octets, port);
+        let told = library::set_parameters(self.shift, &self.bench, port, 1, octets);
+        let judged = library::judge_block(self.shift, octets, port);
         let found = (told.reply.number, judged.number, told.bench == self.bench);
         let length = octets.len();
         self.comparisons.compare((number, number, true), found, || {
@@ -141,12 +149,13 @@ impl Unread<'_> {
     }
 
     fn safe_values(&mut self, incoming: &Way, outgoing: &Way) {
+        let shift = self.shift;
         let (response, request) = (vec![1; incoming.spdu], vec![1; outgoing.spdu]);
         let (zeros_in, zeros_out) = (vec![0; incoming.process], vec![0; outgoing.process]);
         for length in wrong(incoming.process) {
             let safe = self.octets(length);
             self.calls("safe values of a response", 7, |bench, port| {
-                library::receive_response(bench, port, 1, &response, safe)
+                library::receive_response(shift, bench, port, 1, &response, safe)
             });
             self.calls("safe values of operator", 7, |bench, port| {
                 library::operator(bench, port, 1, [false, false], safe)
@@ -158,7 +167,7 @@ impl Unread<'_> {
         for length in wrong(outgoing.process) {
             let safe = self.octets(length);
             self.calls("safe values of a request", 7, |bench, port| {
-                library::receive_request(bench, port, 1, &request, safe)
+                library::receive_request(shift, bench, port, 1, &request, safe)
             });
             self.calls("outgoing safe values of clock", 7, |bench, port| {
                 library::clock(bench, port, 1, &zeros_in, safe)
@@ -168,12 +177,13 @@ impl Unread<'_> {
 
     /// Of a wrong length, beside safe values that hold and beside ones that can't be read either.
     fn spdus(&mut self, incoming: &Way, outgoing: &Way) {
+        let shift = self.shift;
         let (zeros_in, zeros_out) = (vec![0; incoming.process], vec![0; outgoing.process]);
         for length in wrong(incoming.spdu) {
             let spdu = self.octets(length);
             for safe in [&zeros_in[..], self.octets(PAGES)] {
                 self.calls("a response", 10, |bench, port| {
-                    library::receive_response(bench, port, 1, spdu, safe)
+                    library::receive_response(shift, bench, port, 1, spdu, safe)
                 });
             }
         }
@@ -181,23 +191,23 @@ impl Unread<'_> {
             let spdu = self.octets(length);
             for safe in [&zeros_out[..], self.octets(PAGES)] {
                 self.calls("a request", 10, |bench, port| {
-                    library::receive_request(bench, port, 1, spdu, safe)
+                    library::receive_request(shift, bench, port, 1, spdu, safe)
                 });
             }
         }
     }
 
     fn fields(&mut self, incoming: &Way, outgoing: &Way) {
-        let tables = Tables::new();
+        let (shift, tables) = (self.shift, self.tables);
         for length in wrong(incoming.spdu) {
-            let read = tables.read_response(self.params, self.octets(length));
+            let read = tables.read_response(shift, self.params, self.octets(length));
             let marks = [read.port_holds, read.signature_holds, read.all_zero];
             self.comparisons.compare((length, [false; 3]), (read.length, marks), || {
                 format!("the fields of a response of {length} octets")
             });
         }
         for length in wrong(outgoing.spdu) {
-            let read = tables.read_request(self.params, self.octets(length));
+            let read = tables.read_request(shift, self.params, self.octets(length));
             let marks = [read.port_holds, read.signature_holds, read.all_zero];
             self.comparisons.compare((length, [false; 3]), (read.length, marks), || {
                 format!("the fields of a request of {length} octets")
@@ -206,17 +216,18 @@ impl Unread<'_> {
     }
 
     fn built(&mut self, incoming: &Way) {
+        let shift = self.shift;
         for length in wrong(incoming.process) {
             let process = self.octets(length);
             self.numbers("process octets of a response", 7, |bench, port| {
-                library::build_response(bench, port, process, &mut vec![0; incoming.spdu])
+                library::build_response(shift, bench, port, process, &mut vec![0; incoming.spdu])
             });
         }
         for length in wrong(incoming.spdu) {
             let pages = &*self;
             let process = vec![0; incoming.process];
             let found = [0, 9, 4, RUNNING].map(|port| {
-                library::build_response(&pages.bench, port, &process, pages.lent(length))
+                library::build_response(shift, &pages.bench, port, &process, pages.lent(length))
             });
             self.comparisons
                 .compare([8, 8, 9, 7], found, || format!("a response built into {length} octets"));
@@ -224,25 +235,26 @@ impl Unread<'_> {
     }
 
     fn composed(&mut self, outgoing: &Way) {
+        let shift = self.shift;
         let Way { spdu, process, other } = *outgoing;
         let image = spdu + other;
         for length in wrong(process) {
             let octets = self.octets(length);
             self.numbers("process octets of an image", 7, |bench, port| {
-                library::compose(bench, port, octets, &vec![0; other], &mut vec![0; image])
+                library::compose(shift, bench, port, octets, &vec![0; other], &mut vec![0; image])
             });
         }
         for length in wrong(other) {
             let octets = self.octets(length);
             self.numbers("other data of an image", 7, |bench, port| {
-                library::compose(bench, port, &vec![0; process], octets, &mut vec![0; image])
+                library::compose(shift, bench, port, &vec![0; process], octets, &mut vec![0; image])
             });
         }
         for length in wrong(image) {
             let pages = &*self;
             let (process, other) = (vec![0; process], vec![0; other]);
             let found = [0, 9, 4, RUNNING].map(|port| {
-                library::compose(&pages.bench, port, &process, &other, pages.lent(length))
+                library::compose(shift, &pages.bench, port, &process, &other, pages.lent(length))
             });
             self.comparisons
                 .compare([8, 8, 9, 7], found, || format!("an image composed into {length} octets"));
@@ -258,19 +270,20 @@ impl Unread<'_> {
 
     /// Safe values by their mark, and process octets of an SPDU by theirs.
     fn handed_on(&mut self, incoming: &Way) {
+        let shift = self.shift;
         let (zeros, spdu) = (vec![0; incoming.process], self.octets(incoming.spdu));
         for length in wrong(incoming.process) {
             let safe = self.octets(length);
             self.numbers("safe values handed on", 7, |bench, port| {
                 let mut out = vec![0; incoming.process];
-                library::handed_on(bench, port, false, SAFE, spdu, safe, &mut out).number
+                library::handed_on(shift, bench, port, false, SAFE, spdu, safe, &mut out).number
             });
         }
         for length in wrong(incoming.spdu) {
             let spdu = self.octets(length);
             self.numbers("an SPDU handed on", 10, |bench, port| {
                 let mut out = vec![0; incoming.process];
-                library::handed_on(bench, port, false, FRESH, spdu, &zeros, &mut out).number
+                library::handed_on(shift, bench, port, false, FRESH, spdu, &zeros, &mut out).number
             });
         }
     }

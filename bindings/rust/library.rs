@@ -31,13 +31,19 @@ pub struct Trend {
 }
 
 // Rattle's `&[u8]` is a pointer and a length here; a reference to an array is a pointer alone.
+// `shift`: sign by the bit shift loop of 000 Figures D.3 and D.5 instead of the tables. The results
+// are the same; it is for people who approve and read the loop, not a table.
 extern "C" {
     fn whakelouna_table16(table: &mut [u16; 256]);
     fn whakelouna_table32(table: &mut [u32; 16]);
     fn whakelouna_step16(register: u16, octet: u8) -> u16;
     fn whakelouna_step32(register: u32, octet: u8) -> u32;
+    fn whakelouna_step16_by_shift(register: u16, octet: u8) -> u16;
+    fn whakelouna_step32_by_shift(register: u32, octet: u8) -> u32;
     fn whakelouna_signature16(seed: u16, octets: *const u8, length: usize) -> u16;
     fn whakelouna_signature32(seed: u32, octets: *const u8, length: usize) -> u32;
+    fn whakelouna_signature16_by_shift(seed: u16, octets: *const u8, length: usize) -> u16;
+    fn whakelouna_signature32_by_shift(seed: u32, octets: *const u8, length: usize) -> u32;
     fn whakelouna_signature16_by(
         table: &[u16; 256],
         seed: u16,
@@ -55,8 +61,14 @@ extern "C" {
     fn whakelouna_cleared() -> Histogram;
     fn whakelouna_counted(histogram: Histogram, watchdog: u16, sample: u16) -> Histogram;
     fn whakelouna_trend_of(histogram: Histogram) -> Trend;
-    fn whakelouna_judge_block(octets: *const u8, length: usize, port: u8) -> BlockAnswer;
+    fn whakelouna_judge_block(
+        shift: bool,
+        octets: *const u8,
+        length: usize,
+        port: u8,
+    ) -> BlockAnswer;
     fn whakelouna_read_request_by(
+        shift: bool,
         short: &[u16; 256],
         long: &[u32; 16],
         params: Params,
@@ -64,6 +76,7 @@ extern "C" {
         length: usize,
     ) -> Request;
     fn whakelouna_read_response_by(
+        shift: bool,
         short: &[u16; 256],
         long: &[u32; 16],
         params: Params,
@@ -71,6 +84,7 @@ extern "C" {
         length: usize,
     ) -> Response;
     fn whakelouna_build_request_by(
+        shift: bool,
         short: &[u16; 256],
         long: &[u32; 16],
         params: Params,
@@ -83,6 +97,7 @@ extern "C" {
         out_length: usize,
     ) -> u8;
     fn whakelouna_build_response_by(
+        shift: bool,
         short: &[u16; 256],
         long: &[u32; 16],
         params: Params,
@@ -106,6 +121,7 @@ extern "C" {
     fn whakelouna_device_clock(d: Device, w: u16, at: u32) -> DeviceOutcome;
     fn whakelouna_new_bench() -> Bench;
     fn whakelouna_set_parameters(
+        shift: bool,
         bench: Bench,
         port: u8,
         at: u32,
@@ -113,6 +129,7 @@ extern "C" {
         length: usize,
     ) -> BenchTold;
     fn whakelouna_receive_response(
+        shift: bool,
         bench: Bench,
         port: u8,
         at: u32,
@@ -122,6 +139,7 @@ extern "C" {
         safe_length: usize,
     ) -> BenchTold;
     fn whakelouna_receive_request(
+        shift: bool,
         bench: Bench,
         port: u8,
         at: u32,
@@ -149,6 +167,7 @@ extern "C" {
         safe_length: usize,
     ) -> BenchTold;
     fn whakelouna_compose(
+        shift: bool,
         bench: Bench,
         port: u8,
         process: *const u8,
@@ -159,6 +178,7 @@ extern "C" {
         length: usize,
     ) -> u8;
     fn whakelouna_build_response(
+        shift: bool,
         bench: Bench,
         port: u8,
         process: *const u8,
@@ -168,6 +188,7 @@ extern "C" {
     ) -> u8;
     fn whakelouna_split(bench: Bench, port: u8, octets: *const u8, length: usize) -> SplitTold;
     fn whakelouna_handed_on(
+        shift: bool,
         bench: Bench,
         port: u8,
         device: bool,
@@ -185,6 +206,7 @@ extern "C" {
     fn whakelouna_device(bench: Bench, port: u8) -> DeviceTold;
     fn whakelouna_session_start() -> State;
     fn whakelouna_session_feed(
+        shift: bool,
         state: State,
         octets: *const u8,
         length: usize,
@@ -485,12 +507,28 @@ pub fn step32(register: u32, octet: u8) -> u32 {
     unsafe { whakelouna_step32(register, octet) }
 }
 
+pub fn step16_by_shift(register: u16, octet: u8) -> u16 {
+    unsafe { whakelouna_step16_by_shift(register, octet) }
+}
+
+pub fn step32_by_shift(register: u32, octet: u8) -> u32 {
+    unsafe { whakelouna_step32_by_shift(register, octet) }
+}
+
 pub fn signature16(seed: u16, octets: &[u8]) -> u16 {
     unsafe { whakelouna_signature16(seed, octets.as_ptr(), octets.len()) }
 }
 
 pub fn signature32(seed: u32, octets: &[u8]) -> u32 {
     unsafe { whakelouna_signature32(seed, octets.as_ptr(), octets.len()) }
+}
+
+pub fn signature16_by_shift(seed: u16, octets: &[u8]) -> u16 {
+    unsafe { whakelouna_signature16_by_shift(seed, octets.as_ptr(), octets.len()) }
+}
+
+pub fn signature32_by_shift(seed: u32, octets: &[u8]) -> u32 {
+    unsafe { whakelouna_signature32_by_shift(seed, octets.as_ptr(), octets.len()) }
 }
 
 pub fn signature16_by(table: &[u16; 256], seed: u16, octets: &[u8]) -> u16 {
@@ -521,8 +559,8 @@ pub fn trend_of(histogram: Histogram) -> Trend {
     unsafe { whakelouna_trend_of(histogram) }
 }
 
-pub fn judge_block(octets: &[u8], port: u8) -> BlockAnswer {
-    unsafe { whakelouna_judge_block(octets.as_ptr(), octets.len(), port) }
+pub fn judge_block(shift: bool, octets: &[u8], port: u8) -> BlockAnswer {
+    unsafe { whakelouna_judge_block(shift, octets.as_ptr(), octets.len(), port) }
 }
 
 pub fn elapsed(now: u32, since: u32) -> u32 {
@@ -563,18 +601,36 @@ pub fn new_bench() -> Bench {
     unsafe { whakelouna_new_bench() }
 }
 
-pub fn set_parameters(bench: &Bench, port: u8, at: u32, octets: &[u8]) -> BenchTold {
-    unsafe { whakelouna_set_parameters(*bench, port, at, octets.as_ptr(), octets.len()) }
+pub fn set_parameters(shift: bool, bench: &Bench, port: u8, at: u32, octets: &[u8]) -> BenchTold {
+    unsafe { whakelouna_set_parameters(shift, *bench, port, at, octets.as_ptr(), octets.len()) }
 }
 
-pub fn receive_response(bench: &Bench, port: u8, at: u32, spdu: &[u8], safe: &[u8]) -> BenchTold {
+pub fn receive_response(
+    shift: bool,
+    bench: &Bench,
+    port: u8,
+    at: u32,
+    spdu: &[u8],
+    safe: &[u8],
+) -> BenchTold {
     let (octets, zeros) = (spdu.as_ptr(), safe.as_ptr());
-    unsafe { whakelouna_receive_response(*bench, port, at, octets, spdu.len(), zeros, safe.len()) }
+    unsafe {
+        whakelouna_receive_response(shift, *bench, port, at, octets, spdu.len(), zeros, safe.len())
+    }
 }
 
-pub fn receive_request(bench: &Bench, port: u8, at: u32, spdu: &[u8], safe: &[u8]) -> BenchTold {
+pub fn receive_request(
+    shift: bool,
+    bench: &Bench,
+    port: u8,
+    at: u32,
+    spdu: &[u8],
+    safe: &[u8],
+) -> BenchTold {
     let (octets, zeros) = (spdu.as_ptr(), safe.as_ptr());
-    unsafe { whakelouna_receive_request(*bench, port, at, octets, spdu.len(), zeros, safe.len()) }
+    unsafe {
+        whakelouna_receive_request(shift, *bench, port, at, octets, spdu.len(), zeros, safe.len())
+    }
 }
 
 pub fn clock(bench: &Bench, port: u8, at: u32, safe_in: &[u8], safe_out: &[u8]) -> BenchTold {
@@ -590,9 +646,17 @@ pub fn operator(bench: &Bench, port: u8, at: u32, signals: [bool; 2], safe: &[u8
     unsafe { whakelouna_operator(*bench, port, at, signals[0], signals[1], zeros, safe.len()) }
 }
 
-pub fn compose(bench: &Bench, port: u8, process: &[u8], other: &[u8], octets: &mut [u8]) -> u8 {
+pub fn compose(
+    shift: bool,
+    bench: &Bench,
+    port: u8,
+    process: &[u8],
+    other: &[u8],
+    octets: &mut [u8],
+) -> u8 {
     unsafe {
         whakelouna_compose(
+            shift,
             *bench,
             port,
             process.as_ptr(),
@@ -605,9 +669,10 @@ pub fn compose(bench: &Bench, port: u8, process: &[u8], other: &[u8], octets: &m
     }
 }
 
-pub fn build_response(bench: &Bench, port: u8, process: &[u8], out: &mut [u8]) -> u8 {
+pub fn build_response(shift: bool, bench: &Bench, port: u8, process: &[u8], out: &mut [u8]) -> u8 {
     unsafe {
         whakelouna_build_response(
+            shift,
             *bench,
             port,
             process.as_ptr(),
@@ -623,6 +688,7 @@ pub fn split(bench: &Bench, port: u8, octets: &[u8]) -> SplitTold {
 }
 
 pub fn handed_on(
+    shift: bool,
     bench: &Bench,
     port: u8,
     device: bool,
@@ -633,6 +699,7 @@ pub fn handed_on(
 ) -> HandedTold {
     unsafe {
         whakelouna_handed_on(
+            shift,
             *bench,
             port,
             device,
@@ -667,19 +734,19 @@ pub fn session_start() -> State {
     unsafe { whakelouna_session_start() }
 }
 
-pub fn session_feed(state: &State, octets: &[u8], out: &mut [u8]) -> FedTold {
+pub fn session_feed(shift: bool, state: &State, octets: &[u8], out: &mut [u8]) -> FedTold {
     let (start, length) = (octets.as_ptr(), octets.len());
-    unsafe { whakelouna_session_feed(*state, start, length, out.as_mut_ptr(), out.len()) }
+    unsafe { whakelouna_session_feed(shift, *state, start, length, out.as_mut_ptr(), out.len()) }
 }
 
 pub fn session_finish(state: &State, some: bool, out: &mut [u8]) -> usize {
     unsafe { whakelouna_session_finish(*state, some, out.as_mut_ptr(), out.len()) }
 }
 
-/// The two signature tables.
+/// The two signature tables. With `shift` they are lent and not read, whatever they hold.
 pub struct Tables {
-    short: [u16; 256],
-    long: [u32; 16],
+    pub short: [u16; 256],
+    pub long: [u32; 16],
 }
 
 impl Tables {
@@ -690,19 +757,24 @@ impl Tables {
         tables
     }
 
-    pub fn read_request(&self, params: Params, octets: &[u8]) -> Request {
+    pub fn read_request(&self, shift: bool, params: Params, octets: &[u8]) -> Request {
         let Tables { short, long } = self;
-        unsafe { whakelouna_read_request_by(short, long, params, octets.as_ptr(), octets.len()) }
+        unsafe {
+            whakelouna_read_request_by(shift, short, long, params, octets.as_ptr(), octets.len())
+        }
     }
 
-    pub fn read_response(&self, params: Params, octets: &[u8]) -> Response {
+    pub fn read_response(&self, shift: bool, params: Params, octets: &[u8]) -> Response {
         let Tables { short, long } = self;
-        unsafe { whakelouna_read_response_by(short, long, params, octets.as_ptr(), octets.len()) }
+        unsafe {
+            whakelouna_read_response_by(shift, short, long, params, octets.as_ptr(), octets.len())
+        }
     }
 
     /// `marks` are setSD and ChFAckReq.
     pub fn build_request(
         &self,
+        shift: bool,
         params: Params,
         mcount: u8,
         marks: [bool; 2],
@@ -711,6 +783,7 @@ impl Tables {
     ) -> u8 {
         unsafe {
             whakelouna_build_request_by(
+                shift,
                 &self.short,
                 &self.long,
                 params,
@@ -728,6 +801,7 @@ impl Tables {
     /// `marks` are SDset, DCommErr and DTimeout.
     pub fn build_response(
         &self,
+        shift: bool,
         params: Params,
         responded: bool,
         dcount_i: u8,
@@ -737,6 +811,7 @@ impl Tables {
     ) -> u8 {
         unsafe {
             whakelouna_build_response_by(
+                shift,
                 &self.short,
                 &self.long,
                 params,

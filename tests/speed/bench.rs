@@ -19,6 +19,8 @@ use model::block::{put, sign, sizes};
 use random::Random;
 use std::time::Instant;
 
+/// The library signs by its tables, as C does.
+const SHIFT: bool = false;
 /// No watchdog ends in what is timed.
 const W: u16 = 60_000;
 const CYCLES: usize = 64;
@@ -212,16 +214,16 @@ fn session(random: &mut Random, start: &Bench) -> (Vec<Call>, Vec<Call>, Bench) 
             at += 1 + random.below(3) as u32;
             let mut image = vec![0; o + p];
             let process = random.octets(process_out);
-            library::compose(&bench, port, &process, &random.octets(p), &mut image);
+            library::compose(SHIFT, &bench, port, &process, &random.octets(p), &mut image);
             image.truncate(o);
             let safe = &ZEROS[..process_out];
-            bench = library::receive_request(&bench, port, at, &image, safe).bench;
+            bench = library::receive_request(SHIFT, &bench, port, at, &image, safe).bench;
             requests.push(Call { port, at, octets: image });
             at += 1;
             let mut spdu = vec![0; m];
-            library::build_response(&bench, port, &random.octets(process_in), &mut spdu);
+            library::build_response(SHIFT, &bench, port, &random.octets(process_in), &mut spdu);
             let safe = &ZEROS[..process_in];
-            bench = library::receive_response(&bench, port, at, &spdu, safe).bench;
+            bench = library::receive_response(SHIFT, &bench, port, at, &spdu, safe).bench;
             responses.push(Call { port, at, octets: spdu });
         }
     }
@@ -239,7 +241,7 @@ fn time_blocks(random: &mut Random, start: &Left) {
         start,
         |left| {
             for Call { port, at, octets } in &blocks {
-                let told = library::set_parameters(&left.bench, *port, *at, octets);
+                let told = library::set_parameters(SHIFT, &left.bench, *port, *at, octets);
                 left.bench = told.bench;
                 left.add_reply(told.reply);
             }
@@ -270,7 +272,7 @@ fn time_responses(responses: &[Call], start: &Left) {
         |left| {
             for Call { port, at, octets } in responses {
                 let safe = &ZEROS[..safe[usize::from(*port) - 1]];
-                let told = library::receive_response(&left.bench, *port, *at, octets, safe);
+                let told = library::receive_response(SHIFT, &left.bench, *port, *at, octets, safe);
                 left.bench = told.bench;
                 left.add_reply(told.reply);
             }
@@ -303,7 +305,7 @@ fn time_requests(requests: &[Call], start: &Left) {
         |left| {
             for Call { port, at, octets } in requests {
                 let safe = &ZEROS[..safe[usize::from(*port) - 1]];
-                let told = library::receive_request(&left.bench, *port, *at, octets, safe);
+                let told = library::receive_request(SHIFT, &left.bench, *port, *at, octets, safe);
                 left.bench = told.bench;
                 left.add_reply(told.reply);
             }
@@ -411,7 +413,7 @@ fn time_compose(random: &mut Random, start: &Left) {
                 let Lengths { o, p, process_out, .. } = *lengths;
                 let image = slot(&mut left.octets, *port, o + p);
                 let (process, other) = (&process[..process_out], &other[..p]);
-                let number = library::compose(&left.bench, *port, process, other, image);
+                let number = library::compose(SHIFT, &left.bench, *port, process, other, image);
                 left.add(number.into());
             }
         },
@@ -448,7 +450,7 @@ fn time_build_response(random: &mut Random, start: &Left) {
             for (port, lengths) in &calls {
                 let out = slot(&mut left.octets, *port, lengths.m);
                 let process = &process[..lengths.process_in];
-                let number = library::build_response(&left.bench, *port, process, out);
+                let number = library::build_response(SHIFT, &left.bench, *port, process, out);
                 left.add(number.into());
             }
         },
@@ -570,7 +572,7 @@ fn main() {
     let mut bench = library::new_bench();
     for port in PORTS {
         let block = block_for(&mut random, port);
-        bench = library::set_parameters(&bench, port, 0, &block).bench;
+        bench = library::set_parameters(SHIFT, &bench, port, 0, &block).bench;
     }
     let (requests, responses, running) = session(&mut random, &bench);
     let at = responses.last().map_or(0, |last| last.at + 1);

@@ -1,6 +1,6 @@
 // The time of the library's signatures as a ratio to that of the usual C loop over a table of 256
 // entries, and of the long one also to C that works half octets from 16 entries, on the same input in
-// one run.
+// one run. Then the time of the signatures by the bit shift as a ratio to those by the library's table.
 
 #[path = "../../bindings/rust/library.rs"]
 mod library;
@@ -18,6 +18,8 @@ const LOADS: [Load; 3] = [
     Load { octets: 31, messages: 64, passes: 8, rounds: 4000 },
     Load { octets: 65536, messages: 8, passes: 1, rounds: 100 },
 ];
+/// Of these, what is signed by the bit shift: the lengths that an SPDU can have.
+const SHIFTED: usize = 2;
 
 extern "C" {
     fn reference_signature16(seed: u16, octets: *const u8, length: usize) -> u16;
@@ -75,11 +77,33 @@ fn measure(
             time_batch(load, &messages, least, halves)
         });
         if [by_lent_table, by_plain_form, by_halves] != [expected; 3] {
-            println!("speed: signatures of {} octets differ", load.octets);
-            std::process::exit(1);
+            differ(load);
         }
     }
     least
+}
+
+/// Likewise, by the bit shift and by the table.
+fn measure_shift(
+    load: &Load,
+    random: &mut Random,
+    by_shift: impl Fn(&[u8]) -> u32,
+    by_table: impl Fn(&[u8]) -> u32,
+) -> [f64; 2] {
+    let messages = random.octets(load.messages * load.octets);
+    let mut least = [f64::MAX; 2];
+    for _ in 0..load.rounds {
+        let expected = time_batch(load, &messages, &mut least[1], &by_table);
+        if time_batch(load, &messages, &mut least[0], &by_shift) != expected {
+            differ(load);
+        }
+    }
+    least
+}
+
+fn differ(load: &Load) -> ! {
+    println!("speed: signatures of {} octets differ", load.octets);
+    std::process::exit(1);
 }
 
 /// Signs every message, lowers `least` to the time of a call, and answers the sum of the signatures.
@@ -112,6 +136,11 @@ fn print_rows(octets: usize, width: usize, times: &Times) {
     }
 }
 
+fn print_shift_row(octets: usize, width: usize, [shift, table]: [f64; 2]) {
+    let ratio = shift / table;
+    println!("{octets:>6} {width:>6}  {:<6} {shift:>9.1} {ratio:>12.2} {table:>9.1}", "shift");
+}
+
 fn main() {
     let mut random = Random::from_arguments("speed");
     let mut table16 = [0; 256];
@@ -139,5 +168,23 @@ fn main() {
             |octets| library::signature32(SEED.into(), octets),
         );
         print_rows(load.octets, 32, &long);
+    }
+
+    println!("octets  width  form     ns ours     to table  ns table");
+    for load in &LOADS[..SHIFTED] {
+        let short = measure_shift(
+            load,
+            &mut random,
+            |octets| library::signature16_by_shift(SEED.into(), octets).into(),
+            |octets| library::signature16(SEED.into(), octets).into(),
+        );
+        print_shift_row(load.octets, 16, short);
+        let long = measure_shift(
+            load,
+            &mut random,
+            |octets| library::signature32_by_shift(SEED.into(), octets),
+            |octets| library::signature32(SEED.into(), octets),
+        );
+        print_shift_row(load.octets, 32, long);
     }
 }

@@ -12,7 +12,7 @@ use Rattle.answer.specs.Rules as answering
 use Rattle.answer.proofs.Exact.{onward, stays}
 use Rattle.ranges.specs.Fields.{outside}
 use Rattle.block.specs.declared.Params.{Params}
-use Rattle.block.specs.Rules.{rulesOn, judgedAs}
+use Rattle.block.specs.Rules.{rulesBy, judgedAs}
 use Rattle.block.specs.Table22.{paramsOf}
 use Rattle.scl.proofs.Cases.{cond-case, no}
 use Rattle.scl.specs.declared.Happening.{Happening}
@@ -122,10 +122,10 @@ unfolding calls.asked
 nowhere-operator true e s at «setSD_C» «ChFAck_C» holds = refl
 nowhere-operator false e s at «setSD_C» «ChFAck_C» holds = no (sym e)
 
-pub nowhere-block : (port : ℕ) (octets : List ℕ) → outside 1 8 port ≡ true → calls.parametersAct port octets ≡ Refused answers.NoPort
+pub nowhere-block : (sign : List ℕ → ℕ) (port : ℕ) (octets : List ℕ) → outside 1 8 port ≡ true → calls.parametersAct sign port octets ≡ Refused answers.NoPort
 unfolding calls.askedByBlock
-nowhere-block port octets e =
-    let later = drop 1 (rulesOn octets port) in
+nowhere-block sign port octets e =
+    let later = drop 1 (rulesBy sign octets port) in
     ap (λ (a : Answer). calls.askedByBlock (judgedAs a (paramsOf octets))) (onward later (ap (λ (o : Bool). answering.refused answers.Taken o answers.NoPort) e) ∙ stays answers.NoPort later refl)
 
 -- ---- In columns: what is stored there is what the act makes of the ports

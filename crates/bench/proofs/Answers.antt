@@ -22,12 +22,13 @@ use Rattle.bench.specs.declared.Port.{Port}
 use Rattle.bench.specs.declared.End.{End}
 use Rattle.bench.specs.declared.Bench.{Bench}
 use Rattle.bench.specs.declared.Act.the-variants.{Refused, Accepted, Happens}
+use Rattle.bench.specs.Methods.{annexD}
 use Rattle.bench.specs.Ports.{portAt, stepOf, stored, said, silent}
 use Rattle.bench.specs.Calls.{callRules, asked, askedByBlock, done, placed, responseAt, requestAt, clockAt, operatorAt, parametersAt}
 use Rattle.bench.specs.Images.{composeAnswer, composed, buildAnswer, responseOut, splitAnswer, spduPart, otherPart}
 use Rattle.bench.specs.Handing.{handedTo, handedOut}
 use Rattle.bench.specs.Shown.{trendOf, binsOf, masterOf, deviceOf}
-use Rattle.bench.specs.History.{NoReading, Compose, BuildResponse, Split, HandOn, Trend, Bins, ShowMaster, ShowDevice, Call, SetParameters, ReceiveResponse, ReceiveRequest, Clock, Operator, WithoutReading, addressed, rulesWithoutReading, rulesOf, answerWithoutReading, answerOf, after, history}
+use Rattle.bench.specs.History.{NoReading, Compose, BuildResponse, Split, HandOn, Trend, Bins, ShowMaster, ShowDevice, Call, SetParameters, ReceiveResponse, ReceiveRequest, Clock, Operator, WithoutReading, addressed, rulesWithoutReading, rulesOf, answerWithoutReading, answerOf, after, history, resultOf, historyBy}
 use Rattle.bench.proofs.Taken.{taken-is, on-buffers, both-kept}
 use Rattle.bench.proofs.Index.{placed-refused}
 
@@ -49,7 +50,7 @@ block-answer p at j = go (isTaken (j .answer)) refl
     go true e = taken-is (j .answer) e
     go false e = refl
 
-answer-without-reading : (port : ℕ) (p : Port) (act : NoReading) → answerWithoutReading port p act ≡ answerBy Taken (rulesWithoutReading port p act)
+answer-without-reading : (port : ℕ) (p : Port) (act : NoReading) → answerWithoutReading annexD port p act ≡ answerBy Taken (rulesWithoutReading port p act)
 unfolding answerWithoutReading rulesWithoutReading trendOf binsOf masterOf deviceOf composeAnswer buildAnswer splitAnswer handedTo
 answer-without-reading port p (Compose process other octets) =
     on-buffers (answerBy Taken (callRules port (p .setting))) (image.composerHolds (p .setting .params) (length process) (length other) (length octets))
@@ -64,7 +65,7 @@ answer-without-reading port p ShowMaster = refl
 answer-without-reading port p ShowDevice = refl
 
 pub answer-is : (b : Bench) (c : Call) → answerOf b c ≡ answerBy Taken (rulesOf (portAt b (addressed c)) c)
-unfolding answerOf rulesOf addressed placed
+unfolding resultOf rulesOf addressed placed silent
 answer-is b (SetParameters port at octets) = block-answer (portAt b port) at (judged octets port)
 answer-is b (ReceiveResponse port at spdu safe) = asked-answer (portAt b port) at _ _
 answer-is b (ReceiveRequest port at spdu safe) = asked-answer (portAt b port) at _ _
@@ -102,19 +103,19 @@ exactly p (WithoutReading port act) = exactly-without-reading port p act
 -- ---- a refused call changes nothing
 
 pub refused-same : (b : Bench) (c : Call) → isTaken (answerOf b c) ≡ false → after b c ≡ b
-unfolding after answerOf placed
-refused-same b (SetParameters port at octets) e = placed-refused b port (parametersAt port (portAt b port) at octets) e
+unfolding resultOf placed
+refused-same b (SetParameters port at octets) e = placed-refused b port (parametersAt annexD port (portAt b port) at octets) e
 refused-same b (ReceiveResponse port at spdu safe) e =
-    placed-refused b port (responseAt port (portAt b port) at spdu safe) e
+    placed-refused b port (responseAt annexD port (portAt b port) at spdu safe) e
 refused-same b (ReceiveRequest port at spdu safe) e =
-    placed-refused b port (requestAt port (portAt b port) at spdu safe) e
+    placed-refused b port (requestAt annexD port (portAt b port) at spdu safe) e
 refused-same b (Clock port at safeIn safeOut) e = placed-refused b port (clockAt port (portAt b port) at safeIn safeOut) e
 refused-same b (Operator port at «setSD_C» «ChFAck_C» safe) e = placed-refused b port (operatorAt port (portAt b port) at «setSD_C» «ChFAck_C» safe) e
 refused-same b (WithoutReading port act) e = refl
 
 -- so it could be left out of the history with no difference afterwards
 pub left-out : (later : List Call) (c : Call) (past : List Call) → isTaken (answerOf (history past) c) ≡ false → history (later ++ c ∷ past) ≡ history (later ++ past)
-unfolding history
+unfolding historyBy
 left-out [] c past e = refused-same (history past) c e
 left-out (d ∷ later) c past e = ap (λ (b : Bench). after b d) (left-out later c past e)
 
@@ -128,12 +129,12 @@ unwritten a hold written octets = go (isTaken a) hold
     go true false e = refl
     go false hold e = refl
 
-pub compose-refused : (port : ℕ) (p : Port) (process other octets : List ℕ) → isTaken (composeAnswer port p process other octets) ≡ false → composed port p process other octets ≡ octets
+pub compose-refused : (port : ℕ) (p : Port) (process other octets : List ℕ) → isTaken (composeAnswer port p process other octets) ≡ false → composed annexD port p process other octets ≡ octets
 unfolding composeAnswer composed
 compose-refused port p process other octets e =
     unwritten (answerBy Taken (callRules port (p .setting))) (image.composerHolds (p .setting .params) (length process) (length other) (length octets)) _ octets e
 
-pub build-refused : (port : ℕ) (p : Port) (process out : List ℕ) → isTaken (buildAnswer port p process out) ≡ false → responseOut port p process out ≡ out
+pub build-refused : (port : ℕ) (p : Port) (process out : List ℕ) → isTaken (buildAnswer port p process out) ≡ false → responseOut annexD port p process out ≡ out
 unfolding buildAnswer responseOut
 build-refused port p process out e =
     unwritten (answerBy Taken (callRules port (p .setting))) (buffersHold (p .setting .params .«FSP_ProtMode») (p .setting .params .SPDUInLength) (length process) (length out)) _ out e
@@ -155,6 +156,6 @@ split-taken port p octets e =
     let k = both-kept (answerBy Taken (callRules port (p .setting))) (image.splitterHolds params (length octets)) e in
     rw (k .0, k .1) (take-append-drop (params .SPDUInLength) octets, sym (spdu-length params octets (k .1)))
 
-pub handed-refused : (port : ℕ) (p : Port) (e : End) (mark : Mark) (spdu safe out : List ℕ) → isTaken (handedTo port p e mark spdu safe (length out) .answer) ≡ false → handedOut port p e mark spdu safe out ≡ out
+pub handed-refused : (port : ℕ) (p : Port) (e : End) (mark : Mark) (spdu safe out : List ℕ) → isTaken (handedTo annexD port p e mark spdu safe (length out) .answer) ≡ false → handedOut annexD port p e mark spdu safe out ≡ out
 unfolding handedTo handedOut
 handed-refused port p e mark spdu safe out t = simp t

@@ -6,9 +6,9 @@ use mathlib.Core.Path.{_≡_, refl, sym, ap, _∙_}
 use mathlib.Core.Bool.{Bool, true, false, cond}
 use mathlib.Core.List.{List, [], _∷_, _++_, map}
 use lib.Dec.{eqb, leb}
-use lib.ListN.{length, take, getD, replicate}
+use lib.ListN.{length, take, drop, getD, replicate}
 use Rattle.answer.specs.declared.Answer.{Answer}
-use Rattle.answer.specs.declared.Answer.the-variants.{Taken, Buffer, NoPort, NotRunning, SpduLength, NoSamples}
+use Rattle.answer.specs.declared.Answer.the-variants.{Taken, Signature, Buffer, NoPort, NotRunning, SpduLength, NoSamples}
 use Rattle.answer.specs.Answers.{isTaken}
 use Rattle.answer.specs.Rules.{answerBy}
 use Rattle.block.specs.Table22.{paramsOf}
@@ -41,6 +41,7 @@ use Rattle.histogram.specs.Trends.{Shows, zero}
 use Rattle.samples.specs.Tallied.{talliedBy}
 use Rattle.samples.specs.Samples.{oldBy, sentSince, passedForCount, timeOf, isSample, samples}
 use Rattle.bench.specs.declared.Port.{Port}
+use Rattle.bench.specs.Methods.{Method, annexD}
 use Rattle.bench.specs.Ports.{newPort, acceptedPort, newBench, noPort, portAt, withPort, turnOf, stored, said, stepOf, silent, firstLive}
 use Rattle.bench.specs.Regular.{isRegular, regularOf}
 use Rattle.bench.specs.Calls as calls
@@ -48,7 +49,7 @@ use Rattle.bench.specs.Images.{composeAnswer, composed, buildAnswer, res
 use Rattle.bench.specs.declared.End.the-variants as end
 use Rattle.bench.specs.Handing.{handedTo, handedOut}
 use Rattle.bench.specs.Shown.{trendOf, binsOf}
-use Rattle.bench.specs.History.{Call, SetParameters, ReceiveResponse, ReceiveRequest, Clock, addressed, answerOf, after, history, addressing, goesOn, extended, since, sinceBlock, MatchesSince, Matches, Arising, blockIn, OctetsIn, no-call, one-more, octetsOut, Operator, WithoutReading, Compose, BuildResponse, Split, HandOn, Trend, Bins, ShowMaster, ShowDevice, rulesOf, rulesWithoutReading}
+use Rattle.bench.specs.History.{Compose, BuildResponse, HandOn, Call, SetParameters, ReceiveResponse, ReceiveRequest, Clock, WithoutReading, answerWithoutReading, writtenWithoutReading, addressed, answerOf, after, history, addressing, goesOn, extended, since, sinceBlock, MatchesSince, Matches, Arising, blockIn, OctetsIn, no-call, one-more, octetsOut, Operator, WithoutReading, Compose, BuildResponse, Split, HandOn, Trend, Bins, ShowMaster, ShowDevice, rulesOf, rulesWithoutReading, resultOf, historyBy}
 use Rattle.bench.proofs.Answers.{refused-same, left-out, compose-refused, build-refused, split-refused, split-taken, handed-refused}
 use Rattle.bench.proofs.AtPort.{eight, takenAt, taken-at, other-at, others}
 use Rattle.bench.proofs.Regulars.{regular-turn}
@@ -144,7 +145,7 @@ record Asked : Type 0 where
   has-responded : port .live .device .responded ≡ true
 
 asked : Asked
-unfolding hadErrorOrTimeout hadError hadTimeout deviceAfter samples isSample timeOf sentSince passedForCount oldBy isOldAfter lastAdmitted previousBy masterAfter watchedIn passesBy sinceBlock extended goesOn addressed answerOf after history calls.placed calls.asked calls.askedByBlock calls.done portAt withPort newBench newPort noPort acceptedPort turnOf stored said stepOf talliedBy silent signing.signature signing.octet signing.shiftInAll signing.shiftIn elapsedOf table38.watchdogRow table38.isOld table38.isAdmitted table38.checked table38.from8 table38.arrivalRow table38.admitted table38.startFrom table38.t4 table38.acted masters.watched masters.quiet masters.arrived masters.received masters.clocked masters.stepOf table40.watchdogRow table40.isAdmitted table40.checked table40.arrivalRow table40.admitted table40.t22 table40.t25 table40.t28 table40.t29 table40.acted devices.watched devices.quiet devices.arrived devices.received devices.clocked devices.stepOf counted.frozenOf counted.withSample counted.countedOf counted.totalledOf
+unfolding hadErrorOrTimeout hadError hadTimeout deviceAfter samples isSample timeOf sentSince passedForCount oldBy isOldAfter lastAdmitted previousBy masterAfter watchedIn passesBy sinceBlock extended goesOn addressed resultOf historyBy calls.placed calls.asked calls.askedByBlock calls.done portAt withPort newBench newPort noPort acceptedPort turnOf stored said stepOf talliedBy silent signing.signature signing.octet signing.shiftInAll signing.shiftIn elapsedOf table38.watchdogRow table38.isOld table38.isAdmitted table38.checked table38.from8 table38.arrivalRow table38.admitted table38.startFrom table38.t4 table38.acted masters.watched masters.quiet masters.arrived masters.received masters.clocked masters.stepOf table40.watchdogRow table40.isAdmitted table40.checked table40.arrivalRow table40.admitted table40.t22 table40.t25 table40.t28 table40.t29 table40.acted devices.watched devices.quiet devices.arrived devices.received devices.clocked devices.stepOf counted.frozenOf counted.withSample counted.countedOf counted.totalledOf
 asked = record {
   block = refl;
   runs = refl;
@@ -232,7 +233,7 @@ unfolding Says
 refused-says-met = refused-says newBench refused (asked .clock-refused)
 
 pub left-out-met : history (worked ++ refused ∷ []) ≡ history (worked ++ [])
-unfolding history
+unfolding historyBy
 left-out-met = left-out worked refused [] (asked .clock-refused)
 
 pub taken-at-met : portAt (after (history earlier) (ReceiveRequest 1 1070 request safe)) 1 ≡ takenAt before (ReceiveRequest 1 1070 request safe)
@@ -247,11 +248,11 @@ pub others-met : portAt (history (refused ∷ worked)) 1 ≡ portAt (history (ad
 others-met = others 1 refl (refused ∷ worked)
 
 -- buffers of a port that does not run
-pub compose-refused-met : composed 2 newPort [] [] (7 ∷ []) ≡ 7 ∷ []
+pub compose-refused-met : composed annexD 2 newPort [] [] (7 ∷ []) ≡ 7 ∷ []
 unfolding composeAnswer newPort
 compose-refused-met = compose-refused 2 newPort [] [] (7 ∷ []) refl
 
-pub build-refused-met : responseOut 2 newPort [] (7 ∷ []) ≡ 7 ∷ []
+pub build-refused-met : responseOut annexD 2 newPort [] (7 ∷ []) ≡ 7 ∷ []
 unfolding buildAnswer newPort
 build-refused-met = build-refused 2 newPort [] (7 ∷ []) refl
 
@@ -263,7 +264,7 @@ pub split-refused-met : (spduPart 2 newPort (7 ∷ []) ≡ []) × (otherPart 2 n
 unfolding splitAnswer newPort
 split-refused-met = split-refused 2 newPort (7 ∷ []) refl
 
-pub handed-refused-met : handedOut 2 newPort end.Master Fresh response safe (7 ∷ []) ≡ 7 ∷ []
+pub handed-refused-met : handedOut annexD 2 newPort end.Master Fresh response safe (7 ∷ []) ≡ 7 ∷ []
 unfolding handedTo newPort
 handed-refused-met = handed-refused 2 newPort end.Master Fresh response safe (7 ∷ []) refl
 
@@ -279,8 +280,8 @@ abbrev readRequest : Request
 readRequest = requestBy byBits (paramsOf good) request
 
 pub record Handed : Type 0 where
-  response-hands-on : handed (calls.responseAt 1 begun 1010 response safe .reply .master) response ≡ 0x2A ∷ []
-  request-hands-on : handed (calls.requestAt 1 before 1070 request safe .reply .device) request ≡ 0x2A ∷ []
+  response-hands-on : handed (calls.responseAt annexD 1 begun 1010 response safe .reply .master) response ≡ 0x2A ∷ []
+  request-hands-on : handed (calls.requestAt annexD 1 before 1070 request safe .reply .device) request ≡ 0x2A ∷ []
   clock-hands-on-in : handed (calls.clockAt 1 begun 1005 safe safe .reply .master) [] ≡ safe
   clock-hands-on-out : handed (calls.clockAt 1 begun 1005 safe safe .reply .device) [] ≡ safe
   operator-hands-on : handed (calls.operatorAt 1 begun 1005 true false safe .reply .master) [] ≡ safe
@@ -289,7 +290,7 @@ pub record Handed : Type 0 where
   device-fresh-only : deviceSpecs.FreshBy (before .live .device) (before .setting .params .«FSP_WatchdogTime») (happening.Request 1070 readRequest)
 
 pub handed-met : Handed
-unfolding addressed answerOf after history calls.placed calls.asked calls.askedByBlock calls.done portAt withPort newBench newPort noPort acceptedPort turnOf stored said stepOf talliedBy silent signing.signature signing.octet signing.shiftInAll signing.shiftIn elapsedOf table38.watchdogRow table38.isOld table38.isAdmitted table38.checked table38.from8 table38.arrivalRow table38.admitted table38.startFrom table38.t4 table38.acted masters.watched masters.quiet masters.arrived masters.received masters.clocked masters.operated table38.signalled masters.stepOf table40.watchdogRow table40.isAdmitted table40.checked table40.arrivalRow table40.admitted table40.t22 table40.t25 table40.t28 table40.t29 table40.acted devices.watched devices.quiet devices.arrived devices.received devices.clocked devices.stepOf counted.frozenOf counted.withSample counted.countedOf counted.totalledOf
+unfolding addressed resultOf historyBy calls.placed calls.asked calls.askedByBlock calls.done portAt withPort newBench newPort noPort acceptedPort turnOf stored said stepOf talliedBy silent signing.signature signing.octet signing.shiftInAll signing.shiftIn elapsedOf table38.watchdogRow table38.isOld table38.isAdmitted table38.checked table38.from8 table38.arrivalRow table38.admitted table38.startFrom table38.t4 table38.acted masters.watched masters.quiet masters.arrived masters.received masters.clocked masters.operated table38.signalled masters.stepOf table40.watchdogRow table40.isAdmitted table40.checked table40.arrivalRow table40.admitted table40.t22 table40.t25 table40.t28 table40.t29 table40.acted devices.watched devices.quiet devices.arrived devices.received devices.clocked devices.stepOf counted.frozenOf counted.withSample counted.countedOf counted.totalledOf
 handed-met = record {
   response-hands-on = handing.response-hands-on 1 begun 1010 response safe refl;
   request-hands-on = handing.request-hands-on 1 before 1070 request safe refl;
@@ -303,30 +304,30 @@ handed-met = record {
 
 -- the port after its response, which releases at the FS-Master
 abbrev responded : Port
-responded = calls.responseAt 1 begun 1010 response safe .port
+responded = calls.responseAt annexD 1 begun 1010 response safe .port
 
 -- copied out: by the mark of the call that brought it, and by nothing else that may be told: at an end that releases, not of an SPDU with one wrong
 -- octet in its signature, nor of one that is sound but has another count or another port's number
 pub record Copied : Type 0 where
-  by-response : handingAfter.Hands 1 responded end.Master (calls.responseAt 1 begun 1010 response safe .reply .master) response safe (7 ∷ 7 ∷ []) (0x2A ∷ [])
+  by-response : handingAfter.Hands 1 responded end.Master (calls.responseAt annexD 1 begun 1010 response safe .reply .master) response safe (7 ∷ 7 ∷ []) (0x2A ∷ [])
   by-request : handingAfter.Hands 1 port end.Device Fresh request safe (7 ∷ 7 ∷ []) (0x2A ∷ [])
   clock-in : handingAfter.Hands 1 (calls.clockAt 1 begun 1005 safe safe .port) end.Master (calls.clockAt 1 begun 1005 safe safe .reply .master) [] safe (7 ∷ []) safe
   clock-out : handingAfter.Hands 1 (calls.clockAt 1 begun 1005 safe safe .port) end.Device (calls.clockAt 1 begun 1005 safe safe .reply .device) [] safe (7 ∷ []) safe
   operator : handingAfter.Hands 1 (calls.operatorAt 1 begun 1005 true false safe .port) end.Master (calls.operatorAt 1 begun 1005 true false safe .reply .master) [] safe (7 ∷ []) safe
-  not-released : handedOut 1 before end.Device Fresh request safe (7 ∷ []) ≡ 0 ∷ []
-  damaged : handedOut 1 port end.Device Fresh (spdu 0xA0 0xDD 0x84) safe (7 ∷ []) ≡ 0 ∷ []
-  other-count : handedOut 1 port end.Device Fresh (spdu 0x80 0xAE 0x40) safe (7 ∷ []) ≡ 0 ∷ []
-  other-port : handedOut 1 port end.Device Fresh (0x2A ∷ 2 ∷ 0xA0 ∷ 0x0B ∷ 0xFA ∷ []) safe (7 ∷ []) ≡ 0 ∷ []
-  damaged-response : handedOut 1 responded end.Master Fresh (spdu 0xE0 0x3A 0x0E) safe (7 ∷ []) ≡ 0 ∷ []
-  other-count-response : handedOut 1 responded end.Master Fresh (spdu 0xC0 0x49 0xCA) safe (7 ∷ []) ≡ 0 ∷ []
-  other-port-response : handedOut 1 responded end.Master Fresh (0x2A ∷ 2 ∷ 0xE0 ∷ 0xEC ∷ 0x70 ∷ []) safe (7 ∷ []) ≡ 0 ∷ []
-  other-length : handedTo 1 port end.Device Fresh [] safe 1 .answer ≡ SpduLength
-  not-zero : handedTo 1 port end.Device Fresh request (0xFF ∷ []) 1 .answer ≡ Buffer
-  no-room : handedTo 1 port end.Device Fresh request safe 0 .answer ≡ Buffer
-  no-port : handedTo 9 port end.Device Fresh request safe 1 .answer ≡ NoPort
+  not-released : handedOut annexD 1 before end.Device Fresh request safe (7 ∷ []) ≡ 0 ∷ []
+  damaged : handedOut annexD 1 port end.Device Fresh (spdu 0xA0 0xDD 0x84) safe (7 ∷ []) ≡ 0 ∷ []
+  other-count : handedOut annexD 1 port end.Device Fresh (spdu 0x80 0xAE 0x40) safe (7 ∷ []) ≡ 0 ∷ []
+  other-port : handedOut annexD 1 port end.Device Fresh (0x2A ∷ 2 ∷ 0xA0 ∷ 0x0B ∷ 0xFA ∷ []) safe (7 ∷ []) ≡ 0 ∷ []
+  damaged-response : handedOut annexD 1 responded end.Master Fresh (spdu 0xE0 0x3A 0x0E) safe (7 ∷ []) ≡ 0 ∷ []
+  other-count-response : handedOut annexD 1 responded end.Master Fresh (spdu 0xC0 0x49 0xCA) safe (7 ∷ []) ≡ 0 ∷ []
+  other-port-response : handedOut annexD 1 responded end.Master Fresh (0x2A ∷ 2 ∷ 0xE0 ∷ 0xEC ∷ 0x70 ∷ []) safe (7 ∷ []) ≡ 0 ∷ []
+  other-length : handedTo annexD 1 port end.Device Fresh [] safe 1 .answer ≡ SpduLength
+  not-zero : handedTo annexD 1 port end.Device Fresh request (0xFF ∷ []) 1 .answer ≡ Buffer
+  no-room : handedTo annexD 1 port end.Device Fresh request safe 0 .answer ≡ Buffer
+  no-port : handedTo annexD 9 port end.Device Fresh request safe 1 .answer ≡ NoPort
 
 pub copied-met : Copied
-unfolding addressed answerOf after history calls.placed calls.asked calls.askedByBlock calls.done portAt withPort newBench newPort noPort acceptedPort turnOf stored said stepOf talliedBy silent signing.signature signing.octet signing.shiftInAll signing.shiftIn elapsedOf table38.watchdogRow table38.isOld table38.isAdmitted table38.checked table38.from8 table38.arrivalRow table38.admitted table38.startFrom table38.t4 table38.acted masters.watched masters.quiet masters.arrived masters.received masters.clocked masters.operated table38.signalled masters.stepOf table40.watchdogRow table40.isAdmitted table40.checked table40.arrivalRow table40.admitted table40.t22 table40.t25 table40.t28 table40.t29 table40.acted devices.watched devices.quiet devices.arrived devices.received devices.clocked devices.stepOf counted.frozenOf counted.withSample counted.countedOf counted.totalledOf handedTo handedOut
+unfolding addressed resultOf historyBy calls.placed calls.asked calls.askedByBlock calls.done portAt withPort newBench newPort noPort acceptedPort turnOf stored said stepOf talliedBy silent signing.signature signing.octet signing.shiftInAll signing.shiftIn elapsedOf table38.watchdogRow table38.isOld table38.isAdmitted table38.checked table38.from8 table38.arrivalRow table38.admitted table38.startFrom table38.t4 table38.acted masters.watched masters.quiet masters.arrived masters.received masters.clocked masters.operated table38.signalled masters.stepOf table40.watchdogRow table40.isAdmitted table40.checked table40.arrivalRow table40.admitted table40.t22 table40.t25 table40.t28 table40.t29 table40.acted devices.watched devices.quiet devices.arrived devices.received devices.clocked devices.stepOf counted.frozenOf counted.withSample counted.countedOf counted.totalledOf handedTo handedOut
 copied-met = record {
   by-response = handingAfter.response-handed 1 begun 1010 response safe (7 ∷ 7 ∷ []) refl (omega arith);
   by-request = record { told = refl; written = refl };
@@ -383,7 +384,7 @@ abbrev faulty : Port
 faulty = portAt (history damaged) 1
 
 faulty-block : sinceBlock 1 damaged ≡ since 1000 (paramsOf good) faultyPast
-unfolding sinceBlock extended goesOn addressed answerOf after history calls.placed calls.asked calls.askedByBlock calls.done portAt withPort newBench newPort noPort acceptedPort turnOf stored said stepOf silent signing.signature signing.octet signing.shiftInAll signing.shiftIn
+unfolding sinceBlock extended goesOn addressed resultOf historyBy calls.placed calls.asked calls.askedByBlock calls.done portAt withPort newBench newPort noPort acceptedPort turnOf stored said stepOf silent signing.signature signing.octet signing.shiftInAll signing.shiftIn
 faulty-block = refl
 
 fault-open : fault 1000 100 faultyPast ≡ Open
@@ -408,9 +409,9 @@ pub record Out : Type 0 where
   safe-while-faulty :
       let s = sent 1 faulty process [] image in
       (processOf (faulty .setting .params .«FSP_ProtMode») s ≡ replicate (octetsOut faulty) 0) × (requestBy byBits (faulty .setting .params) s .setSD ≡ true)
-  process-answered : processOf (port .setting .params .«FSP_ProtMode») (responseOut 1 port process image) ≡ process
-  response-sent : responseBy byBits (port .setting .params) (responseOut 1 port process image) ≡ responseBack (port .setting .params) (port .live .device .«DCount_i») (port .live .device .SDset) (port .live .device .DCommErr) (port .live .device .DTimeout)
-  zeros-first : responseBy byBits (faulty .setting .params) (responseOut 1 faulty process image) ≡ zerosBack (faulty .setting .params)
+  process-answered : processOf (port .setting .params .«FSP_ProtMode») (responseOut annexD 1 port process image) ≡ process
+  response-sent : responseBy byBits (port .setting .params) (responseOut annexD 1 port process image) ≡ responseBack (port .setting .params) (port .live .device .«DCount_i») (port .live .device .SDset) (port .live .device .DCommErr) (port .live .device .DTimeout)
+  zeros-first : responseBy byBits (faulty .setting .params) (responseOut annexD 1 faulty process image) ≡ zerosBack (faulty .setting .params)
 
 pub out-met : Out
 out-met =
@@ -428,7 +429,7 @@ out-met =
 
 -- ---- the response is a regular one: port 1 takes the turn that is written apart
 is-regular : isRegular (begun .setting) (begun .live) (happening.Response 1010 read) ≡ true
-unfolding isRegular regularMasters.isRegular table38.isOld devices.unchanged talliedBy counted.totalledOf limit elapsedOf after history calls.placed calls.askedByBlock calls.done portAt withPort newBench newPort noPort acceptedPort silent signing.signature signing.octet signing.shiftInAll signing.shiftIn
+unfolding isRegular regularMasters.isRegular table38.isOld devices.unchanged talliedBy counted.totalledOf limit elapsedOf resultOf historyBy calls.placed calls.askedByBlock calls.done portAt withPort newBench newPort noPort acceptedPort silent signing.signature signing.octet signing.shiftInAll signing.shiftIn
 is-regular = refl
 
 pub regular-turn-met : regularOf (begun .setting) (begun .live) (happening.Response 1010 read) ≡ turnOf (begun .setting) (begun .live) (happening.Response 1010 read)
@@ -505,3 +506,27 @@ answers =
 pub first-broken : map (λ row. answerBy Taken (rulesOf (row .0) (row .1))) answers ≡ map (λ row. row .2) answers
 unfolding newPort rulesOf rulesWithoutReading
 first-broken = refl
+
+-- ---- each call that signs goes by the method it is given: by one that signs all 0, a sound block is refused, a sound SPDU is not admitted, none of its
+-- octets are copied, and what is built carries 1 in place of 0
+
+abbrev pub signsZero : Method
+signsZero = record { block = λ octets. 0; spdu = λ mode contents. 0 }
+
+abbrev sevens : List ℕ
+sevens = replicate 5 7
+
+pub record ByMethod : Type 0 where
+  block-refused : resultOf signsZero newBench accepted .reply .answer ≡ Signature 23
+  no-port : historyBy signsZero (accepted ∷ []) ≡ newBench
+  response-safe : resultOf signsZero (history (accepted ∷ [])) (ReceiveResponse 1 1010 response safe) .reply .master ≡ Safe
+  request-safe : resultOf signsZero (history earlier) (ReceiveRequest 1 1070 request safe) .reply .device ≡ Safe
+  composes : drop 3 (resultOf signsZero (history worked) (WithoutReading 1 (Compose safe [] sevens)) .written) ≡ 0 ∷ 1 ∷ []
+  builds : drop 3 (resultOf signsZero (history worked) (WithoutReading 1 (BuildResponse safe sevens)) .written) ≡ 0 ∷ 1 ∷ []
+  copies : resultOf signsZero (history worked) (WithoutReading 1 (HandOn end.Device Fresh request safe (7 ∷ []))) .written ≡ 0 ∷ []
+  -- which annexD hands on
+  copied : resultOf annexD (history worked) (WithoutReading 1 (HandOn end.Device Fresh request safe (7 ∷ []))) .written ≡ 0x2A ∷ []
+
+pub by-method-met : ByMethod
+unfolding table38.t7 answerWithoutReading writtenWithoutReading composed composeAnswer buildAnswer responseOut addressed resultOf historyBy calls.placed calls.asked calls.askedByBlock calls.done portAt withPort newBench newPort noPort acceptedPort turnOf stored said stepOf talliedBy silent signing.signature signing.octet signing.shiftInAll signing.shiftIn elapsedOf table38.watchdogRow table38.isOld table38.isAdmitted table38.checked table38.from8 table38.arrivalRow table38.admitted table38.startFrom table38.t4 table38.acted masters.watched masters.quiet masters.arrived masters.received masters.clocked masters.operated table38.signalled masters.stepOf table40.watchdogRow table40.isAdmitted table40.checked table40.arrivalRow table40.admitted table40.t22 table40.t25 table40.t28 table40.t29 table40.acted devices.watched devices.quiet devices.arrived devices.received devices.clocked devices.stepOf counted.frozenOf counted.withSample counted.countedOf counted.totalledOf handedTo handedOut
+by-method-met = record { block-refused = refl; no-port = refl; response-safe = refl; request-safe = refl; composes = refl; builds = refl; copies = refl; copied = refl }

@@ -24,13 +24,13 @@ use Rattle.bench.specs.declared.Port.{Port}
 use Rattle.bench.specs.declared.Bench.{Bench}
 use Rattle.bench.specs.Ports.{acceptedPort, newBench, portAt, stepOf}
 use Rattle.bench.specs.Calls.{asked, askedByBlock, done, placed}
-use Rattle.bench.specs.History.{Call, SetParameters, ReceiveResponse, ReceiveRequest, Clock, Operator, WithoutReading, addressed, rulesOf, answerOf, after, history, addressing}
+use Rattle.bench.specs.History.{Call, SetParameters, ReceiveResponse, ReceiveRequest, Clock, Operator, WithoutReading, addressed, rulesOf, answerOf, after, history, addressing, resultOf, historyBy}
 use Rattle.bench.proofs.Index.{placed-same, placed-other, placed-length}
 use Rattle.bench.proofs.Answers.{asked-answer, block-answer, answer-is, refused-same}
 
 -- ---- always eight ports
 after-length : (b : Bench) (c : Call) → length (after b c .ports) ≡ length (b .ports)
-unfolding after
+unfolding resultOf
 after-length b (SetParameters port at octets) = placed-length b port _
 after-length b (ReceiveResponse port at spdu safe) = placed-length b port _
 after-length b (ReceiveRequest port at spdu safe) = placed-length b port _
@@ -39,7 +39,7 @@ after-length b (Operator port at «setSD_C» «ChFAck_C» safe) = placed-length 
 after-length b (WithoutReading port act) = refl
 
 pub eight : (past : List Call) → length (history past .ports) ≡ 8
-unfolding history newBench
+unfolding historyBy newBench
 eight [] = refl
 eight (c ∷ past) = after-length (history past) c ∙ eight past
 
@@ -70,7 +70,7 @@ module _ (b : Bench) (all : length (b .ports) ≡ 8) where
   happened-at port at a h k e = placed-same b all port k (done (portAt b port) at (asked a h)) e ∙ asked-port (portAt b port) at a h e
 
   pub taken-at : (c : Call) → outside 1 8 (addressed c) ≡ false → isTaken (answerOf b c) ≡ true → portAt (after b c) (addressed c) ≡ takenAt (portAt b (addressed c)) c
-  unfolding after answerOf addressed takenAt placed
+  unfolding resultOf addressed takenAt placed
   taken-at (SetParameters port at octets) k e =
       let j = judged octets port in
       let t : isTaken (j .answer) ≡ true = sym (ap isTaken (block-answer (portAt b port) at j)) ∙ e in
@@ -83,7 +83,7 @@ module _ (b : Bench) (all : length (b .ports) ≡ 8) where
 
   -- a call to another port
   pub other-at : (q : ℕ) → outside 1 8 q ≡ false → (c : Call) → eqb (addressed c) q ≡ false → portAt (after b c) q ≡ portAt b q
-  unfolding after addressed
+  unfolding resultOf addressed
   other-at q k (SetParameters port at octets) e = placed-other b all q k port _ e
   other-at q k (ReceiveResponse port at spdu safe) e = placed-other b all q k port _ e
   other-at q k (ReceiveRequest port at spdu safe) e = placed-other b all q k port _ e
@@ -108,7 +108,7 @@ module _ (b d : Bench) (all-b : length (b .ports) ≡ 8) (all-d : length (d .por
 
 -- Calls to other ports could be left out of the history with no difference to a port.
 pub others : (q : ℕ) → outside 1 8 q ≡ false → (past : List Call) → portAt (history past) q ≡ portAt (history (addressing q past)) q
-unfolding history addressing
+unfolding historyBy addressing
 others q k [] = refl
 others q k (c ∷ past) = go (eqb (addressed c) q) refl (others q k past)
   where

@@ -15,14 +15,15 @@ use Rattle.scl.specs.declared.Mark.{Mark}
 use Rattle.bench.specs.declared.Port.{Port}
 use Rattle.bench.specs.declared.End.{End}
 use Rattle.bench.specs.declared.Handed.{Handed}
+use Rattle.bench.specs.Methods.{annexD}
 use Rattle.bench.specs.Calls.{callRules}
 use Rattle.bench.specs.Handing.{isFresh, lengthAt, lentRules, partAt, safeHoldsAt, handedTo, handedOut}
 use Rattle.bench.proofs.Taken.{taken-is}
 
 -- how many octets are told, and what stands in the buffer later
 pub record Copied (port : ℕ) (p : Port) (e : End) (mark : Mark) (spdu safe out : List ℕ) (told : Handed) (later : List ℕ) : Type 0 where
-  pub told-is : told ≡ handedTo port p e mark spdu safe (length out)
-  pub later-is : later ≡ handedOut port p e mark spdu safe out
+  pub told-is : told ≡ handedTo annexD port p e mark spdu safe (length out)
+  pub later-is : later ≡ handedOut annexD port p e mark spdu safe out
 
 -- the last rule is on two things: where the answer on the first is a refusal it stays, else the second decides
 both : (a : Answer) (x y : Bool) → refused a (not (x && y)) Buffer ≡ cond (isTaken (refused a (not x) Buffer)) (cond y Taken Buffer) (refused a (not x) Buffer)
@@ -39,7 +40,7 @@ module _ (port : ℕ) (p : Port) (e : End) (mark : Mark) (spdu safe out : List �
   holds = safeHoldsAt e (p .setting .params) safe
 
   abbrev part : List ℕ
-  part = partAt e p mark spdu safe
+  part = partAt annexD e p mark spdu safe
 
   abbrev lent : Bool → Answer
   lent h = answerBy Taken (lentRules port p e mark (length spdu) h)

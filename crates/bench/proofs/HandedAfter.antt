@@ -34,6 +34,7 @@ use Rattle.bench.specs.declared.Bench.{Bench}
 use Rattle.bench.specs.declared.End.{End}
 use Rattle.bench.specs.declared.End.the-variants as end
 use Rattle.bench.specs.declared.Reply.{Reply}
+use Rattle.bench.specs.Methods.{annexD}
 use Rattle.bench.specs.Ports.{PortAfter, portAt, turnOf, stored, said, stepOf}
 use Rattle.bench.specs.Calls as calls
 use Rattle.bench.specs.Handing.{isFresh, lengthAt, safeHoldsAt, releasesAt, isLastAt, unlessSafe, allowedMark, partAt, handRules, handedTo, handedOut}
@@ -43,16 +44,16 @@ use Rattle.bench.proofs.HandedOn as handing
 
 -- a handing on that is not refused, and what it writes
 pub record Hands (port : ℕ) (p : Port) (e : End) (mark : Mark) (spdu safe out part : List ℕ) : Type 0 where
-  pub told : handedTo port p e mark spdu safe (length out) ≡ record { answer = Taken; octets = length part }
-  pub written : handedOut port p e mark spdu safe out ≡ part ++ drop (length part) out
+  pub told : handedTo annexD port p e mark spdu safe (length out) ≡ record { answer = Taken; octets = length part }
+  pub written : handedOut annexD port p e mark spdu safe out ≡ part ++ drop (length part) out
 
 -- ---- the mark that a port's own call gave is allowed
 
-mark-allowed : (e : End) (p : Port) (spdu : List ℕ) (row : Bool) → (markOf row (releasesAt e p) ≡ Fresh → isLastAt e p spdu ≡ true)
-    → allowedMark e p (markOf row (releasesAt e p)) spdu ≡ markOf row (releasesAt e p)
+mark-allowed : (e : End) (p : Port) (spdu : List ℕ) (row : Bool) → (markOf row (releasesAt e p) ≡ Fresh → isLastAt annexD e p spdu ≡ true)
+    → allowedMark annexD e p (markOf row (releasesAt e p)) spdu ≡ markOf row (releasesAt e p)
 mark-allowed e p spdu row last = go (releasesAt e p) refl row last
   where
-    go : (r : Bool) → releasesAt e p ≡ r → (row : Bool) → (markOf row r ≡ Fresh → isLastAt e p spdu ≡ true) → allowedMark e p (markOf row r) spdu ≡ markOf row r
+    go : (r : Bool) → releasesAt e p ≡ r → (row : Bool) → (markOf row r ≡ Fresh → isLastAt annexD e p spdu ≡ true) → allowedMark annexD e p (markOf row r) spdu ≡ markOf row r
     go false is row last = refl
     go true is false last = simp is
     go true is true last = simp (is, last refl)
@@ -67,28 +68,28 @@ allowed-fresh : (allowed : Bool) → unlessSafe Fresh allowed ≡ Fresh → allo
 allowed-fresh true e = refl
 allowed-fresh false e = no (sym (ap isFresh e))
 
-pub only-released : (e : End) (p : Port) (mark : Mark) (spdu : List ℕ) → allowedMark e p mark spdu ≡ Fresh → (releasesAt e p && isLastAt e p spdu) ≡ true
-only-released e p Fresh spdu h = allowed-fresh (releasesAt e p && isLastAt e p spdu) h
+pub only-released : (e : End) (p : Port) (mark : Mark) (spdu : List ℕ) → allowedMark annexD e p mark spdu ≡ Fresh → (releasesAt e p && isLastAt annexD e p spdu) ≡ true
+only-released e p Fresh spdu h = allowed-fresh (releasesAt e p && isLastAt annexD e p spdu) h
 only-released e p GoesOn spdu h = absurd (not-fresh GoesOn (releasesAt e p) refl h)
 only-released e p Safe spdu h = no (sym (ap isFresh h))
 only-released e p Nothing spdu h = no (sym (ap isFresh h))
 
 -- and where it does not release, nothing but zeros
 pub zeros-only : (port : ℕ) (e : End) (p : Port) (mark : Mark) (spdu safe : List ℕ) (room : ℕ) → releasesAt e p ≡ false
-    → isTaken (handedTo port p e mark spdu safe room .answer) ≡ true → allZero (partAt e p mark spdu safe) ≡ true
+    → isTaken (handedTo annexD port p e mark spdu safe room .answer) ≡ true → allZero (partAt annexD e p mark spdu safe) ≡ true
 unfolding handedTo
 zeros-only port e p mark spdu safe room silent taken = go mark
   where
-    kept : Kept (handRules port p e mark spdu safe room)
-    kept = taken-exactly (handRules port p e mark spdu safe room) tt tt .0 taken
+    kept : Kept (handRules annexD port p e mark spdu safe room)
+    kept = taken-exactly (handRules annexD port p e mark spdu safe room) tt tt .0 taken
 
     holds : safeHoldsAt e (p .setting .params) safe ≡ true
-    holds = and-left (safeHoldsAt e (p .setting .params) safe) (leb (length (partAt e p mark spdu safe)) room) (not-false (safeHoldsAt e (p .setting .params) safe && leb (length (partAt e p mark spdu safe)) room) (kept .each 3))
+    holds = and-left (safeHoldsAt e (p .setting .params) safe) (leb (length (partAt annexD e p mark spdu safe)) room) (not-false (safeHoldsAt e (p .setting .params) safe && leb (length (partAt annexD e p mark spdu safe)) room) (kept .each 3))
 
     zero : allZero safe ≡ true
     zero = and-right (eqb (length safe) (processOctets (p .setting .params .«FSP_ProtMode») (lengthAt e (p .setting .params)))) (allZero safe) holds
 
-    go : (mark : Mark) → allZero (partAt e p mark spdu safe) ≡ true
+    go : (mark : Mark) → allZero (partAt annexD e p mark spdu safe) ≡ true
     go Fresh = simp silent zero
     go GoesOn = simp silent zero
     go Safe = zero
@@ -111,11 +112,11 @@ module _ (port : ℕ) (known : outside 1 8 port ≡ false) (p : Port) (runs : p 
   abbrev mode : ℕ
   mode = p .setting .params .«FSP_ProtMode»
 
-  module _ (spdu safe out part : List ℕ) (fresh : mark ≡ Fresh → (isLastAt e p spdu ≡ true) × (eqb (length spdu) (lengthAt e (p .setting .params)) ≡ true)) where
-    part-at : image.handedOn mark mode spdu safe ≡ part → partAt e p mark spdu safe ≡ part
+  module _ (spdu safe out part : List ℕ) (fresh : mark ≡ Fresh → (isLastAt annexD e p spdu ≡ true) × (eqb (length spdu) (lengthAt e (p .setting .params)) ≡ true)) where
+    part-at : image.handedOn mark mode spdu safe ≡ part → partAt annexD e p mark spdu safe ≡ part
     part-at part-is =
         ap (λ (m : Mark). image.handedOn m mode spdu safe)
-        (ap (λ (m : Mark). allowedMark e p m spdu) is ∙ mark-allowed e p spdu row (λ f. fresh (is ∙ f) .0) ∙ sym is)
+        (ap (λ (m : Mark). allowedMark annexD e p m spdu) is ∙ mark-allowed e p spdu row (λ f. fresh (is ∙ f) .0) ∙ sym is)
         ∙ part-is
 
     hands : safeHoldsAt e (p .setting .params) safe ≡ true → image.handedOn mark mode spdu safe ≡ part → length part ≤ length out
@@ -123,12 +124,12 @@ module _ (port : ℕ) (known : outside 1 8 port ≡ false) (p : Port) (runs : p 
     unfolding handedTo handedOut
     hands safes part-is fits =
         let same = part-at part-is in
-        let room : leb (length (partAt e p mark spdu safe)) (length out) ≡ true = ap (λ (l : List ℕ). leb (length l) (length out)) same ∙ le-leb (length part) (length out) fits in
+        let room : leb (length (partAt annexD e p mark spdu safe)) (length out) ≡ true = ap (λ (l : List ℕ). leb (length l) (length out)) same ∙ le-leb (length part) (length out) fits in
         let lengths = lengths-of mark (eqb (length spdu) (lengthAt e (p .setting .params))) (λ f. fresh f .1) in
-        let taken : answerBy Taken (handRules port p e mark spdu safe (length out)) ≡ Taken = simp (known, runs, lengths, safes, room) in
+        let taken : answerBy Taken (handRules annexD port p e mark spdu safe (length out)) ≡ Taken = simp (known, runs, lengths, safes, room) in
         record {
-          told = ap (λ (a : Answer). record { answer = a; octets = cond (isTaken a) (length (partAt e p mark spdu safe)) 0 }) taken ∙ ap (λ (l : List ℕ). record { answer = Taken; octets = length l }) same;
-          written = ap (λ (a : Answer). cond (isTaken a) (partAt e p mark spdu safe ++ drop (length (partAt e p mark spdu safe)) out) out) taken ∙ ap (λ (l : List ℕ). l ++ drop (length l) out) same;
+          told = ap (λ (a : Answer). record { answer = a; octets = cond (isTaken a) (length (partAt annexD e p mark spdu safe)) 0 }) taken ∙ ap (λ (l : List ℕ). record { answer = Taken; octets = length l }) same;
+          written = ap (λ (a : Answer). cond (isTaken a) (partAt annexD e p mark spdu safe ++ drop (length (partAt annexD e p mark spdu safe)) out) out) taken ∙ ap (λ (l : List ℕ). l ++ drop (length l) out) same;
         }
 
 -- ---- each call that is not refused, at its port
@@ -161,7 +162,7 @@ module _ (port : ℕ) (p : Port) (at : ℕ) where
       simp (r .signature, r .port) (eq-eqb _ _ (sym count))
 
   pub response-handed : (spdu safe out : List ℕ) → isTaken (answerBy Taken (calls.responseRules port (p .setting) (length spdu) safe)) ≡ true
-      → let r = calls.responseAt port p at spdu safe in
+      → let r = calls.responseAt annexD port p at spdu safe in
       let part = handsOn (r .reply .«master_releases») (responseAdmitted p at (responseBy byBits (p .setting .params) spdu)) (processOf (p .setting .params .«FSP_ProtMode») spdu) (octetsIn p) in
       length part ≤ length out → Hands port (r .port) end.Master (r .reply .master) spdu safe out part
   unfolding stepOf stored said turnOf
@@ -179,7 +180,7 @@ module _ (port : ℕ) (p : Port) (at : ℕ) where
       (rw (handing.asked-taken p at (answerBy Taken rules) h t) at handed) fits)
 
   pub request-handed : (spdu safe out : List ℕ) → isTaken (answerBy Taken (calls.requestRules port (p .setting) (length spdu) safe)) ≡ true
-      → let r = calls.requestAt port p at spdu safe in
+      → let r = calls.requestAt annexD port p at spdu safe in
       let part = handsOn (r .reply .«device_releases») (requestAdmitted p at (requestBy byBits (p .setting .params) spdu)) (processOf (p .setting .params .«FSP_ProtMode») spdu) (octetsOut p) in
       length part ≤ length out → Hands port (r .port) end.Device (r .reply .device) spdu safe out part
   unfolding stepOf stored said turnOf

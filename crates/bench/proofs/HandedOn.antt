@@ -35,6 +35,7 @@ use Rattle.fs_device.specs.Calls as devices
 use Rattle.fs_device.specs.History as deviceSpecs
 use Rattle.fs_device.proofs.Release as deviceRelease
 use Rattle.bench.specs.declared.Port.{Port}
+use Rattle.bench.specs.Methods.{annexD}
 use Rattle.bench.specs.Ports.{turnOf, stored, said, stepOf, silent}
 use Rattle.bench.specs.Calls.{responseRules, requestRules, clockRules, operatorRules, safeInHold, safeOutHold, asked, done, responseAt, requestAt, clockAt, operatorAt}
 use Rattle.bench.specs.History.{handsOn, octetsIn, octetsOut, responseAdmitted, requestAdmitted}
@@ -100,7 +101,7 @@ module _ (port : ℕ) (p : Port) (at : ℕ) where
 
   -- an SPDU as FS-Master
   pub response-hands-on : (spdu safe : List ℕ) → isTaken (answerBy Taken (responseRules port (p .setting) (length spdu) safe)) ≡ true
-      → let r = responseAt port p at spdu safe .reply in
+      → let r = responseAt annexD port p at spdu safe .reply in
       let f = responseBy byBits (p .setting .params) spdu in
       handed (r .master) spdu safe ≡ handsOn (r .«master_releases») (responseAdmitted p at f) (processOf (p .setting .params .«FSP_ProtMode») spdu) (octetsIn p)
   unfolding stepOf stored said turnOf
@@ -113,7 +114,7 @@ module _ (port : ℕ) (p : Port) (at : ℕ) where
 
   -- an SPDU as FS-Device
   pub request-hands-on : (spdu safe : List ℕ) → isTaken (answerBy Taken (requestRules port (p .setting) (length spdu) safe)) ≡ true
-      → let r = requestAt port p at spdu safe .reply in
+      → let r = requestAt annexD port p at spdu safe .reply in
       let q = requestBy byBits (p .setting .params) spdu in
       handed (r .device) spdu safe ≡ handsOn (r .«device_releases») (requestAdmitted p at q) (processOf (p .setting .params .«FSP_ProtMode») spdu) (octetsOut p)
   unfolding stepOf stored said turnOf

@@ -33,7 +33,7 @@ use Rattle.samples.specs.Samples.{samples, histogramAfter}
 use Rattle.samples.proofs.Counted.{samples-within, samples-held, tallied-parts}
 use Rattle.bench.specs.declared.Port.{Port}
 use Rattle.bench.specs.Ports.{histogramOf, newPort, acceptedPort, portAt, turnOf, stored, said, stepOf}
-use Rattle.bench.specs.History.{Call, SetParameters, ReceiveResponse, ReceiveRequest, Clock, Operator, WithoutReading, addressed, rulesOf, answerOf, after, history, Since, never, since, goesOn, extended, sinceBlock, ConfiguredLength, nothing-came, came, MatchesSince, Matches}
+use Rattle.bench.specs.History.{Call, SetParameters, ReceiveResponse, ReceiveRequest, Clock, Operator, WithoutReading, addressed, rulesOf, answerOf, after, history, Since, never, since, goesOn, extended, sinceBlock, ConfiguredLength, nothing-came, came, MatchesSince, Matches, historyBy}
 use Rattle.bench.proofs.Index.{new-at}
 use Rattle.bench.proofs.Answers.{answer-is, exactly, refused-same}
 use Rattle.bench.proofs.AtPort.{eight, takenAt, taken-at, other-at}
@@ -121,7 +121,7 @@ module _ (q : ℕ) (known : outside 1 8 q ≡ false) where
 
   -- Demand 2: bins, total, sum, lowest, highest and both ends are those of the calls since the last accepted block.
   pub matches : (past : List Call) → Matches (portAt (history past) q) (sinceBlock q past)
-  unfolding history sinceBlock Matches
+  unfolding historyBy sinceBlock Matches
   matches [] = new-at q
   matches (c ∷ past) = go (eqb (addressed c) q) refl (isTaken (answerOf (history past) c)) refl (matches past)
     where

@@ -8,6 +8,7 @@ pub mod Regulars
 pub mod Raised
 pub mod Beside
 pub mod Acted
+pub mod Engines
 pub mod History
 pub mod Release
 pub mod Never

@@ -42,7 +42,7 @@ use Rattle.histogram.proofs.Counting.{nothing-wraps}
 use Rattle.bench.specs.declared.Port.{Port}
 use Rattle.bench.specs.Ports.{newPort, portAt}
 use Rattle.bench.specs.Calls.{placed}
-use Rattle.bench.specs.History.{Call, SetParameters, ReceiveResponse, ReceiveRequest, Clock, Operator, WithoutReading, addressed, answerOf, history, Since, never, since, goesOn, extended, sinceBlock, Matches, Arising, blockIn, OctetsIn, no-call, one-more}
+use Rattle.bench.specs.History.{Call, SetParameters, ReceiveResponse, ReceiveRequest, Clock, Operator, WithoutReading, addressed, answerOf, history, Since, never, since, goesOn, extended, sinceBlock, Matches, Arising, blockIn, OctetsIn, no-call, one-more, resultOf}
 use Rattle.bench.proofs.Answers.{block-answer}
 use Rattle.bench.proofs.History.{matches}
 
@@ -176,7 +176,7 @@ block-sound : (octets : List ℕ) (port : ℕ) → ((i : ℕ) → getD octets i 
 block-sound octets port o t = record { accepted-block = rw (taken-params octets port t) at (accepted octets port o t); all-read = none }
 
 extended-sound : (q : ℕ) (past : List Call) (c : Call) (s : Since) → addressed c ≡ q → isTaken (answerOf (history past) c) ≡ true → ((i : ℕ) → getD (blockIn c) i 0 < 256) → Sounds q s → Sounds q (extended s c)
-unfolding extended blockIn Sounds addressed answerOf placed Read
+unfolding extended blockIn Sounds addressed resultOf placed Read
 extended-sound q past (SetParameters port at octets) s e t o z =
     rw (sym e) (block-sound octets port o (sym (ap isTaken (block-answer (portAt (history past) port) at (judged octets port))) ∙ t))
 extended-sound q past (ReceiveResponse port at spdu safe) s e t o z = goes-sound q s (λ p. happening.Response at (responseBy byBits p spdu)) (λ p. response-read p spdu) z

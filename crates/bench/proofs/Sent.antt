@@ -32,6 +32,7 @@ use Rattle.fs_master.specs.History.{None, fault}
 use Rattle.fs_master.proofs.Acknowledge.{sends-safe}
 use Rattle.fs_device.specs.declared.Device.{Device}
 use Rattle.bench.specs.declared.Port.{Port}
+use Rattle.bench.specs.Methods.{annexD}
 use Rattle.bench.specs.Ports.{portAt}
 use Rattle.bench.specs.Calls.{callRules}
 use Rattle.bench.specs.Images.{composeAnswer, composed, buildAnswer, responseOut}
@@ -61,7 +62,7 @@ module _ (q : ℕ) (p : Port) where
 
     -- it stands first (R3)
     abbrev pub sent : List ℕ
-    sent = take (params .SPDUOutLength) (composed q p process other octets)
+    sent = take (params .SPDUOutLength) (composed annexD q p process other octets)
 
     abbrev values : List ℕ
     values = processSent (master .setSD) process
@@ -117,7 +118,7 @@ module _ (q : ℕ) (p : Port) where
     device = p .live .device
 
     abbrev response : List ℕ
-    response = responseOut q p process out
+    response = responseOut annexD q p process out
 
     abbrev status : ℕ
     status = statusOctet (device .«DCount_i») (device .SDset) (device .DCommErr) (device .DTimeout)

@@ -11,8 +11,7 @@ use Rattle.answer.specs.Rules.{Rule, rule, answerBy}
 use Rattle.ranges.specs.Fields.{outside}
 use Rattle.block.specs.declared.Params.{Params}
 use Rattle.block.specs.declared.Judged.{Judged}
-use Rattle.block.specs.Rules.{judged}
-use Rattle.spdu.specs.Signature.{byBits}
+use Rattle.block.specs.Rules.{judgedBy}
 use Rattle.spdu.specs.Fields.{responseBy, requestBy}
 use Rattle.spdu.specs.Image.{safeValuesHold}
 use Rattle.scl.specs.declared.Happening.{Happening}
@@ -23,6 +22,7 @@ use Rattle.bench.specs.declared.Bench.{Bench}
 use Rattle.bench.specs.declared.Act.{Act}
 use Rattle.bench.specs.declared.Act.the-variants.{Refused, Accepted, Happens}
 use Rattle.bench.specs.declared.BenchAfter.{BenchAfter}
+use Rattle.bench.specs.Methods.{Method}
 use Rattle.bench.specs.Ports.{PortAfter, acceptedPort, portAt, withPort, stepOf, silent}
 
 -- Rules. s is the setting of the port addressed; o says that no port has the number. "For every other call: 8, 9, 10, 7, 11."
@@ -61,7 +61,7 @@ clockRules port s safeIn safeOut = otherRules (outside 1 8 port) s (safeInHold (
 abbrev pub operatorRules : ℕ → Setting → List ℕ → List Rule
 operatorRules port s safe = otherRules (outside 1 8 port) s (safeInHold (s .params) safe)
 
--- What a call asks of its port, by a method of signing where an SPDU is read.
+-- What a call asks of its port, by a method of signing where a block or an SPDU is read.
 
 unfoldable pub asked : Answer → Happening → Act
 asked a h = cond (isTaken a) (Happens h) (Refused a)
@@ -69,8 +69,8 @@ asked a h = cond (isTaken a) (Happens h) (Refused a)
 unfoldable pub askedByBlock : Judged → Act
 askedByBlock j = cond (isTaken (j .answer)) (Accepted (j .params)) (Refused (j .answer))
 
-abbrev pub parametersAct : ℕ → List ℕ → Act
-parametersAct port octets = askedByBlock (judged octets port)
+abbrev pub parametersAct : (List ℕ → ℕ) → ℕ → List ℕ → Act
+parametersAct sign port octets = askedByBlock (judgedBy sign octets port)
 
 abbrev pub responseAct : (ℕ → List ℕ → ℕ) → Bool → Setting → ℕ → List ℕ → Bool → Act
 responseAct sign o s at spdu holds =
@@ -86,20 +86,20 @@ clockAct o s at holds = asked (answerBy Taken (otherRules o s holds)) (happening
 abbrev pub operatorAct : Bool → Setting → ℕ → Bool → Bool → Bool → Act
 operatorAct o s at «setSD_C» «ChFAck_C» holds = asked (answerBy Taken (otherRules o s holds)) (happening.Operator at «setSD_C» «ChFAck_C»)
 
--- At a port, with the reading of the call. "A refusal changes no state".
+-- At a port, with the reading of the call, by a method of signing. "A refusal changes no state".
 unfoldable pub done : Port → ℕ → Act → PortAfter
 done p at (Refused a) = record { port = p; reply = silent a }
 done p at (Accepted params) = record { port = acceptedPort p params at; reply = silent Taken }
 done p at (Happens h) = stepOf p h
 
-abbrev pub parametersAt : ℕ → Port → ℕ → List ℕ → PortAfter
-parametersAt port p at octets = done p at (parametersAct port octets)
+abbrev pub parametersAt : Method → ℕ → Port → ℕ → List ℕ → PortAfter
+parametersAt m port p at octets = done p at (parametersAct (m .block) port octets)
 
-abbrev pub responseAt : ℕ → Port → ℕ → List ℕ → List ℕ → PortAfter
-responseAt port p at spdu safe = done p at (responseAct byBits (outside 1 8 port) (p .setting) at spdu (safeInHold (p .setting .params) safe))
+abbrev pub responseAt : Method → ℕ → Port → ℕ → List ℕ → List ℕ → PortAfter
+responseAt m port p at spdu safe = done p at (responseAct (m .spdu) (outside 1 8 port) (p .setting) at spdu (safeInHold (p .setting .params) safe))
 
-abbrev pub requestAt : ℕ → Port → ℕ → List ℕ → List ℕ → PortAfter
-requestAt port p at spdu safe = done p at (requestAct byBits (outside 1 8 port) (p .setting) at spdu (safeOutHold (p .setting .params) safe))
+abbrev pub requestAt : Method → ℕ → Port → ℕ → List ℕ → List ℕ → PortAfter
+requestAt m port p at spdu safe = done p at (requestAct (m .spdu) (outside 1 8 port) (p .setting) at spdu (safeOutHold (p .setting .params) safe))
 
 abbrev pub clockAt : ℕ → Port → ℕ → List ℕ → List ℕ → PortAfter
 clockAt port p at safeIn safeOut =
@@ -114,14 +114,14 @@ operatorAt port p at «setSD_C» «ChFAck_C» safe =
 unfoldable pub placed : Bench → ℕ → PortAfter → BenchAfter
 placed b port r = record { bench = cond (isTaken (r .reply .answer)) (withPort b port (r .port)) b; reply = r .reply }
 
-abbrev pub setParameters : Bench → ℕ → ℕ → List ℕ → BenchAfter
-setParameters b port at octets = placed b port (parametersAt port (portAt b port) at octets)
+abbrev pub setParameters : Method → Bench → ℕ → ℕ → List ℕ → BenchAfter
+setParameters m b port at octets = placed b port (parametersAt m port (portAt b port) at octets)
 
-abbrev pub receiveResponse : Bench → ℕ → ℕ → List ℕ → List ℕ → BenchAfter
-receiveResponse b port at spdu safe = placed b port (responseAt port (portAt b port) at spdu safe)
+abbrev pub receiveResponse : Method → Bench → ℕ → ℕ → List ℕ → List ℕ → BenchAfter
+receiveResponse m b port at spdu safe = placed b port (responseAt m port (portAt b port) at spdu safe)
 
-abbrev pub receiveRequest : Bench → ℕ → ℕ → List ℕ → List ℕ → BenchAfter
-receiveRequest b port at spdu safe = placed b port (requestAt port (portAt b port) at spdu safe)
+abbrev pub receiveRequest : Method → Bench → ℕ → ℕ → List ℕ → List ℕ → BenchAfter
+receiveRequest m b port at spdu safe = placed b port (requestAt m port (portAt b port) at spdu safe)
 
 abbrev pub clock : Bench → ℕ → ℕ → List ℕ → List ℕ → BenchAfter
 clock b port at safeIn safeOut = placed b port (clockAt port (portAt b port) at safeIn safeOut)

@@ -35,10 +35,13 @@ use Rattle.samples.specs.Samples.{samples, histogramAfter}
 use Rattle.bench.specs.declared.Port.{Port}
 use Rattle.bench.specs.declared.End.{End}
 use Rattle.bench.specs.declared.Bench.{Bench}
-use Rattle.bench.specs.Ports.{newPort, newBench, portAt, histogramOf}
+use Rattle.bench.specs.declared.Reply.{Reply}
+use Rattle.bench.specs.declared.BenchAfter.{BenchAfter}
+use Rattle.bench.specs.Methods.{Method, annexD}
+use Rattle.bench.specs.Ports.{newPort, newBench, portAt, histogramOf, silent}
 use Rattle.bench.specs.Calls as calls
-use Rattle.bench.specs.Images.{composeAnswer, buildAnswer, splitAnswer}
-use Rattle.bench.specs.Handing.{handRules, handedTo}
+use Rattle.bench.specs.Images.{composeAnswer, composed, buildAnswer, responseOut, splitAnswer}
+use Rattle.bench.specs.Handing.{handRules, handedTo, handedOut}
 use Rattle.bench.specs.Shown.{trendRules, trendOf, binsOf, masterOf, deviceOf}
 
 -- ---- Calls
@@ -83,7 +86,7 @@ rulesWithoutReading port p (Compose process other octets) = bufferRules port p (
 rulesWithoutReading port p (BuildResponse process out) =
     bufferRules port p (buffersHold (p .setting .params .«FSP_ProtMode») (p .setting .params .SPDUInLength) (length process) (length out))
 rulesWithoutReading port p (Split octets) = bufferRules port p (image.splitterHolds (p .setting .params) (length octets))
-rulesWithoutReading port p (HandOn end mark spdu safe out) = handRules port p end mark spdu safe (length out)
+rulesWithoutReading port p (HandOn end mark spdu safe out) = handRules annexD port p end mark spdu safe (length out)
 rulesWithoutReading port p Trend = trendRules port p
 rulesWithoutReading port p Bins = calls.callRules port (p .setting)
 rulesWithoutReading port p ShowMaster = calls.callRules port (p .setting)
@@ -97,37 +100,69 @@ rulesOf p (Clock port at safeIn safeOut) = calls.clockRules port (p .setting) sa
 rulesOf p (Operator port at «setSD_C» «ChFAck_C» safe) = calls.operatorRules port (p .setting) safe
 rulesOf p (WithoutReading port act) = rulesWithoutReading port p act
 
--- the answer that the call's contract gives
-unfoldable pub answerWithoutReading : ℕ → Port → NoReading → Answer
-answerWithoutReading port p (Compose process other octets) = composeAnswer port p process other octets
-answerWithoutReading port p (BuildResponse process out) = buildAnswer port p process out
-answerWithoutReading port p (Split octets) = splitAnswer port p octets
-answerWithoutReading port p (HandOn end mark spdu safe out) = handedTo port p end mark spdu safe (length out) .answer
-answerWithoutReading port p Trend = trendOf port p .answer
-answerWithoutReading port p Bins = binsOf port p .answer
-answerWithoutReading port p ShowMaster = masterOf port p .answer
-answerWithoutReading port p ShowDevice = deviceOf port p .answer
+-- the answer that the call's contract gives, by a method of signing
+unfoldable pub answerWithoutReading : Method → ℕ → Port → NoReading → Answer
+answerWithoutReading m port p (Compose process other octets) = composeAnswer port p process other octets
+answerWithoutReading m port p (BuildResponse process out) = buildAnswer port p process out
+answerWithoutReading m port p (Split octets) = splitAnswer port p octets
+answerWithoutReading m port p (HandOn end mark spdu safe out) = handedTo m port p end mark spdu safe (length out) .answer
+answerWithoutReading m port p Trend = trendOf port p .answer
+answerWithoutReading m port p Bins = binsOf port p .answer
+answerWithoutReading m port p ShowMaster = masterOf port p .answer
+answerWithoutReading m port p ShowDevice = deviceOf port p .answer
 
-unfoldable pub answerOf : Bench → Call → Answer
-answerOf b (SetParameters port at octets) = calls.setParameters b port at octets .reply .answer
-answerOf b (ReceiveResponse port at spdu safe) = calls.receiveResponse b port at spdu safe .reply .answer
-answerOf b (ReceiveRequest port at spdu safe) = calls.receiveRequest b port at spdu safe .reply .answer
-answerOf b (Clock port at safeIn safeOut) = calls.clock b port at safeIn safeOut .reply .answer
-answerOf b (Operator port at «setSD_C» «ChFAck_C» safe) = calls.operator b port at «setSD_C» «ChFAck_C» safe .reply .answer
-answerOf b (WithoutReading port act) = answerWithoutReading port (portAt b port) act
+-- what stands later in the buffer that a call writes, by a method of signing; nothing where it writes none
+unfoldable pub writtenWithoutReading : Method → ℕ → Port → NoReading → List ℕ
+writtenWithoutReading m port p (Compose process other octets) = composed m port p process other octets
+writtenWithoutReading m port p (BuildResponse process out) = responseOut m port p process out
+writtenWithoutReading m port p (Split octets) = []
+writtenWithoutReading m port p (HandOn end mark spdu safe out) = handedOut m port p end mark spdu safe out
+writtenWithoutReading m port p Trend = []
+writtenWithoutReading m port p Bins = []
+writtenWithoutReading m port p ShowMaster = []
+writtenWithoutReading m port p ShowDevice = []
 
--- the bench after the call; calls without a reading return none, so it stays (R11)
-unfoldable pub after : Bench → Call → Bench
-after b (SetParameters port at octets) = calls.setParameters b port at octets .bench
-after b (ReceiveResponse port at spdu safe) = calls.receiveResponse b port at spdu safe .bench
-after b (ReceiveRequest port at spdu safe) = calls.receiveRequest b port at spdu safe .bench
-after b (Clock port at safeIn safeOut) = calls.clock b port at safeIn safeOut .bench
-after b (Operator port at «setSD_C» «ChFAck_C» safe) = calls.operator b port at «setSD_C» «ChFAck_C» safe .bench
-after b (WithoutReading port act) = b
+-- What a call comes to: the bench after it, what it says, and what stands later in the buffer that it writes.
+pub record Result : Type 0 where
+  pub bench : Bench
+  pub reply : Reply
+  pub written : List ℕ
 
-unfoldable pub history : List Call → Bench
-history [] = newBench
-history (c ∷ past) = after (history past) c
+-- a call with a reading writes no buffer
+abbrev pub unwritten : BenchAfter → Result
+unwritten r = record { bench = r .bench; reply = r .reply; written = [] }
+
+-- by a method of signing; calls without a reading return no bench, so it stays (R11), and of what they say the answer counts here
+unfoldable pub resultOf : Method → Bench → Call → Result
+resultOf m b (SetParameters port at octets) = unwritten (calls.setParameters m b port at octets)
+resultOf m b (ReceiveResponse port at spdu safe) = unwritten (calls.receiveResponse m b port at spdu safe)
+resultOf m b (ReceiveRequest port at spdu safe) = unwritten (calls.receiveRequest m b port at spdu safe)
+resultOf m b (Clock port at safeIn safeOut) = unwritten (calls.clock b port at safeIn safeOut)
+resultOf m b (Operator port at «setSD_C» «ChFAck_C» safe) = unwritten (calls.operator b port at «setSD_C» «ChFAck_C» safe)
+resultOf m b (WithoutReading port act) = record {
+  bench = b;
+  reply = silent (answerWithoutReading m port (portAt b port) act);
+  written = writtenWithoutReading m port (portAt b port) act;
+}
+
+abbrev pub answerOf : Bench → Call → Answer
+answerOf b c = resultOf annexD b c .reply .answer
+
+abbrev pub after : Bench → Call → Bench
+after b c = resultOf annexD b c .bench
+
+-- the bench after a list of calls
+unfoldable pub historyBy : Method → List Call → Bench
+historyBy m [] = newBench
+historyBy m (c ∷ past) = resultOf m (historyBy m past) c .bench
+
+abbrev pub history : List Call → Bench
+history past = historyBy annexD past
+
+-- all that a list of calls comes to, call for call
+unfoldable pub resultsOf : Method → List Call → List Result
+resultsOf m [] = []
+resultsOf m (c ∷ past) = resultOf m (historyBy m past) c ∷ resultsOf m past
 
 -- the calls that address a port
 unfoldable pub addressing : ℕ → List Call → List Call

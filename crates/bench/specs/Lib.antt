@@ -1,6 +1,7 @@
 pub mod Ports
 pub mod Regular
 pub mod Columns
+pub mod Methods
 pub mod Calls
 pub mod Storing
 pub mod Images

@@ -4,7 +4,8 @@ ghost use Prim.Native.Nat.{_<_};
 ghost use lib.ListN.{length};
 ghost use Rattle.answer.specs.declared.Answer.the-variants as answers;
 ghost use Rattle.answer.specs.Rules.{answerBy};
-ghost use Rattle.spdu.specs.Signature.{byTables};
+ghost use Rattle.block.specs.Table22.{parametersBy};
+ghost use Rattle.spdu.specs.Signature.{byEngine};
 ghost use Rattle.bench.specs.Ports as ports;
 ghost use Rattle.bench.specs.Calls as calls;
 use crate::Act;
@@ -14,6 +15,7 @@ use answer::Answer;
 use answer::refuse;
 use block::Judged;
 use scl::Happening;
+use signature::Engine;
 
 pub fn place_of(port: u8) -> Place
     ensures { λ r. ⌜ (r ≡ ports.placeOf port) × (r .index < 8) ⌝ }
@@ -83,14 +85,15 @@ fn asked_by_block(judged: Judged) -> Act
 }
 
 // A parameter block of any length.
-pub fn parameters_act(port: u8, octets: &[u8]) -> Act
-    ensures { λ r. ⌜ r ≡ calls.parametersAct port (now (octets .entry)) ⌝ }
+pub fn parameters_act(engine: Engine, short: &[u16; 256], port: u8, octets: &[u8]) -> Act
+    ensures { λ r. ⌜ r ≡ calls.parametersAct (parametersBy engine (now (short .entry))) port (now (octets .entry)) ⌝ }
 {
-    asked_by_block(block::judge(octets, port))
+    asked_by_block(block::judge_by(engine, short, octets, port))
 }
 
 // An SPDU received as FS-Master; `safe_holds`: the safe values lent are as many zeros as it has process octets.
 pub fn response_act(
+    engine: Engine,
     short: &[u16; 256],
     long: &[u32; 16],
     outside: bool,
@@ -99,7 +102,7 @@ pub fn response_act(
     spdu: &[u8],
     safe_holds: bool,
 ) -> Act
-    ensures { λ r. ⌜ r ≡ calls.responseAct (byTables (now (short .entry)) (now (long .entry))) outside setting at (now (spdu .entry)) «safe_holds» ⌝ }
+    ensures { λ r. ⌜ r ≡ calls.responseAct (byEngine engine (now (short .entry)) (now (long .entry))) outside setting at (now (spdu .entry)) «safe_holds» ⌝ }
 {
     let a = spdu_answer(
         outside,
@@ -111,7 +114,7 @@ pub fn response_act(
     if answer::is_taken(a) {
         Act::Happens(Happening::Response(
             at,
-            spdu::response_fields_by(short, long, setting.params, spdu),
+            spdu::response_fields_by(engine, short, long, setting.params, spdu),
         ))
     } else {
         Act::Refused(a)
@@ -120,6 +123,7 @@ pub fn response_act(
 
 // An SPDU received as FS-Device.
 pub(crate) fn request_act(
+    engine: Engine,
     short: &[u16; 256],
     long: &[u32; 16],
     outside: bool,
@@ -128,7 +132,7 @@ pub(crate) fn request_act(
     spdu: &[u8],
     safe_holds: bool,
 ) -> Act
-    ensures { λ r. ⌜ r ≡ calls.requestAct (byTables (now (short .entry)) (now (long .entry))) outside setting at (now (spdu .entry)) «safe_holds» ⌝ }
+    ensures { λ r. ⌜ r ≡ calls.requestAct (byEngine engine (now (short .entry)) (now (long .entry))) outside setting at (now (spdu .entry)) «safe_holds» ⌝ }
 {
     let a = spdu_answer(
         outside,
@@ -140,7 +144,7 @@ pub(crate) fn request_act(
     if answer::is_taken(a) {
         Act::Happens(Happening::Request(
             at,
-            spdu::request_fields_by(short, long, setting.params, spdu),
+            spdu::request_fields_by(engine, short, long, setting.params, spdu),
         ))
     } else {
         Act::Refused(a)

@@ -1,9 +1,10 @@
-// The calls with a clock reading, at a port of the bench.
+// The calls with a clock reading, at a port of the bench. Those that sign take the engine; what they come to is the same whichever it is.
 ghost use Prim.Native.Nat.{ℕ, _<_};
 ghost use mathlib.Core.Path.{_≡_};
 ghost use mathlib.Core.Bool.{false};
 ghost use lib.ListN.{set};
 ghost use Rattle.bench.specs.declared.Act.the-variants as acts;
+ghost use Rattle.bench.specs.Methods.{annexD};
 ghost use Rattle.bench.specs.Ports as ports;
 ghost use Rattle.bench.specs.Calls as calls;
 ghost use Rattle.bench.specs.Storing as storing;
@@ -26,6 +27,7 @@ use crate::turns::turn;
 use answer::Answer;
 use block::Params;
 use scl::Happening;
+use signature::Engine;
 
 pub(crate) fn port_at(b: Bench, port: u8) -> Port
     ensures { λ r. ⌜ r ≡ ports.portAt b port ⌝ }
@@ -119,42 +121,76 @@ fn safe_out_hold(params: Params, safe: &[u8]) -> bool
     spdu::safe_values_hold(params.FSP_ProtMode, params.SPDUOutLength as usize, safe)
 }
 
-pub fn set_parameters(b: Bench, port: u8, at: u32, octets: &[u8]) -> BenchAfter
-    ensures { λ r. ⌜ r ≡ calls.setParameters b port at (now (octets .entry)) ⌝ }
+pub fn set_parameters(engine: Engine, b: Bench, port: u8, at: u32, octets: &[u8]) -> BenchAfter
+    ensures { λ r. ⌜ r ≡ calls.setParameters annexD b port at (now (octets .entry)) ⌝ }
 {
     let place = place_of(port);
     let i = place.index;
     let p = b.ports[i];
-    acted(b, i, p, at, parameters_act(port, octets))
+    let short = signature::table16_for(engine);
+    let act = parameters_act(engine, &short, port, octets);
+    acted(b, i, p, at, act)
 }
 
 // An SPDU received as FS-Master, with as many zeros as it has process octets.
-pub fn receive_response(b: Bench, port: u8, at: u32, spdu: &[u8], safe: &[u8]) -> BenchAfter
-    ensures { λ r. ⌜ r ≡ calls.receiveResponse b port at (now (spdu .entry)) (now (safe .entry)) ⌝ }
+pub fn receive_response(
+    engine: Engine,
+    b: Bench,
+    port: u8,
+    at: u32,
+    spdu: &[u8],
+    safe: &[u8],
+) -> BenchAfter
+    ensures { λ r. ⌜ r ≡ calls.receiveResponse annexD b port at (now (spdu .entry)) (now (safe .entry)) ⌝ }
 {
     let place = place_of(port);
     let i = place.index;
     let p = b.ports[i];
-    let short = signature::table16();
-    let long = signature::table32();
+    let short = signature::table16_for(engine);
+    let long = signature::table32_for(engine);
     let setting = p.setting;
     let holds = safe_in_hold(setting.params, safe);
-    let act = response_act(&short, &long, place.outside, setting, at, spdu, holds);
+    let act = response_act(
+        engine,
+        &short,
+        &long,
+        place.outside,
+        setting,
+        at,
+        spdu,
+        holds,
+    );
     happened(b, i, p, act)
 }
 
 // An SPDU received as FS-Device, with as many zeros as it has process octets.
-pub fn receive_request(b: Bench, port: u8, at: u32, spdu: &[u8], safe: &[u8]) -> BenchAfter
-    ensures { λ r. ⌜ r ≡ calls.receiveRequest b port at (now (spdu .entry)) (now (safe .entry)) ⌝ }
+pub fn receive_request(
+    engine: Engine,
+    b: Bench,
+    port: u8,
+    at: u32,
+    spdu: &[u8],
+    safe: &[u8],
+) -> BenchAfter
+    ensures { λ r. ⌜ r ≡ calls.receiveRequest annexD b port at (now (spdu .entry)) (now (safe .entry)) ⌝ }
 {
     let place = place_of(port);
     let i = place.index;
     let p = b.ports[i];
-    let short = signature::table16();
-    let long = signature::table32();
+    let short = signature::table16_for(engine);
+    let long = signature::table32_for(engine);
     let setting = p.setting;
     let holds = safe_out_hold(setting.params, safe);
-    let act = request_act(&short, &long, place.outside, setting, at, spdu, holds);
+    let act = request_act(
+        engine,
+        &short,
+        &long,
+        place.outside,
+        setting,
+        at,
+        spdu,
+        holds,
+    );
     happened(b, i, p, act)
 }
 

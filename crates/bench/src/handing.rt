@@ -4,6 +4,7 @@ ghost use mathlib.Core.Path.{_≡_};
 ghost use lib.ListN.{length};
 ghost use Rattle.answer.specs.declared.Answer.the-variants as answers;
 ghost use Rattle.answer.specs.Rules.{answerBy};
+ghost use Rattle.bench.specs.Methods.{annexD};
 ghost use Rattle.bench.specs.Ports.{portAt};
 ghost use Rattle.bench.specs.Handing as handing;
 use crate::Bench;
@@ -16,6 +17,7 @@ use answer::Answer;
 use answer::refuse;
 use block::Params;
 use scl::Mark;
+use signature::Engine;
 
 fn is_fresh(mark: Mark) -> bool
     ensures { λ r. ⌜ r ≡ handing.isFresh mark ⌝ }
@@ -47,26 +49,26 @@ fn releases_at(end: End, p: Port) -> bool
     }
 }
 
-fn is_last_response(p: Port, spdu: &[u8]) -> bool
-    ensures { λ r. ⌜ r ≡ handing.isLastResponse p (now (spdu .entry)) ⌝ }
+fn is_last_response(engine: Engine, p: Port, spdu: &[u8]) -> bool
+    ensures { λ r. ⌜ r ≡ handing.isLastResponse annexD p (now (spdu .entry)) ⌝ }
 {
-    let f = spdu::read_response(p.setting.params, spdu);
+    let f = spdu::read_response(engine, p.setting.params, spdu);
     f.signature_holds & f.port_holds & (f.DCount_i as u16 == p.live.master.carried)
 }
 
-fn is_last_request(p: Port, spdu: &[u8]) -> bool
-    ensures { λ r. ⌜ r ≡ handing.isLastRequest p (now (spdu .entry)) ⌝ }
+fn is_last_request(engine: Engine, p: Port, spdu: &[u8]) -> bool
+    ensures { λ r. ⌜ r ≡ handing.isLastRequest annexD p (now (spdu .entry)) ⌝ }
 {
-    let q = spdu::read_request(p.setting.params, spdu);
+    let q = spdu::read_request(engine, p.setting.params, spdu);
     q.signature_holds & q.port_holds & (q.MCount == p.live.device.MCount)
 }
 
-fn is_last_at(end: End, p: Port, spdu: &[u8]) -> bool
-    ensures { λ r. ⌜ r ≡ handing.isLastAt end p (now (spdu .entry)) ⌝ }
+fn is_last_at(engine: Engine, end: End, p: Port, spdu: &[u8]) -> bool
+    ensures { λ r. ⌜ r ≡ handing.isLastAt annexD end p (now (spdu .entry)) ⌝ }
 {
     match end {
-        End::Master => is_last_response(p, spdu),
-        End::Device => is_last_request(p, spdu),
+        End::Master => is_last_response(engine, p, spdu),
+        End::Device => is_last_request(engine, p, spdu),
     }
 }
 
@@ -76,12 +78,12 @@ fn unless_safe(mark: Mark, allowed: bool) -> Mark
     if allowed { mark } else { Mark::Safe }
 }
 
-fn allowed_mark(end: End, p: Port, mark: Mark, spdu: &[u8]) -> Mark
-    ensures { λ r. ⌜ r ≡ handing.allowedMark end p mark (now (spdu .entry)) ⌝ }
+fn allowed_mark(engine: Engine, end: End, p: Port, mark: Mark, spdu: &[u8]) -> Mark
+    ensures { λ r. ⌜ r ≡ handing.allowedMark annexD end p mark (now (spdu .entry)) ⌝ }
 {
     let releases = releases_at(end, p);
     match mark {
-        Mark::Fresh => unless_safe(mark, releases & is_last_at(end, p, spdu)),
+        Mark::Fresh => unless_safe(mark, releases & is_last_at(engine, end, p, spdu)),
         Mark::GoesOn => unless_safe(mark, releases),
         Mark::Safe => mark,
         Mark::Nothing => mark,
@@ -104,15 +106,23 @@ fn safe_holds_at(end: End, params: Params, safe: &[u8]) -> bool
     spdu::safe_values_hold(params.FSP_ProtMode, length_at(end, params) as usize, safe)
 }
 
-fn part_at<'a>(end: End, p: Port, mark: Mark, spdu: &'a [u8], safe: &'a [u8]) -> &'a [u8]
-    ensures { λ r. ⌜ now r ≡ handing.partAt end p mark (now (spdu .entry)) (now (safe .entry)) ⌝ }
+fn part_at<'a>(
+    engine: Engine,
+    end: End,
+    p: Port,
+    mark: Mark,
+    spdu: &'a [u8],
+    safe: &'a [u8],
+) -> &'a [u8]
+    ensures { λ r. ⌜ now r ≡ handing.partAt annexD end p mark (now (spdu .entry)) (now (safe .entry)) ⌝ }
 {
-    let allowed = allowed_mark(end, p, mark, spdu);
+    let allowed = allowed_mark(engine, end, p, mark, spdu);
     spdu::handed_on(allowed, p.setting.params.FSP_ProtMode, spdu, safe)
 }
 
 // The part that was handed on, of the SPDU or of the safe values; empty in a refusal.
 pub fn handed_on<'a>(
+    engine: Engine,
     b: Bench,
     port: u8,
     end: End,
@@ -120,13 +130,13 @@ pub fn handed_on<'a>(
     spdu: &'a [u8],
     safe: &'a [u8],
 ) -> &'a [u8]
-    ensures { λ r. ⌜ now r ≡ handing.handedOn port (portAt b port) end mark (now (spdu .entry)) (now (safe .entry)) ⌝ }
+    ensures { λ r. ⌜ now r ≡ handing.handedOn annexD port (portAt b port) end mark (now (spdu .entry)) (now (safe .entry)) ⌝ }
 {
     let p = port_at(b, port);
     let holds = safe_holds_at(end, p.setting.params, safe);
     let a = lent_answer(port, p, end, mark, spdu.len(), holds);
     if answer::is_taken(a) {
-        part_at(end, p, mark, spdu, safe)
+        part_at(engine, end, p, mark, spdu, safe)
     } else {
         &safe[..0]
     }
@@ -134,6 +144,7 @@ pub fn handed_on<'a>(
 
 // The same, copied to the front of out; 7 where out has no room for it.
 pub fn hand_on<'a>(
+    engine: Engine,
     b: Bench,
     port: u8,
     end: End,
@@ -142,14 +153,14 @@ pub fn hand_on<'a>(
     safe: &'a [u8],
     out: &mut [u8],
 ) -> Handed
-    ensures { λ r. ⌜ r ≡ handing.handedTo port (portAt b port) end mark (now (spdu .entry)) (now (safe .entry)) (length (now (out .entry))) ⌝ }
-    ensures { λ _. ⌜ now (out .exit) ≡ handing.handedOut port (portAt b port) end mark (now (spdu .entry)) (now (safe .entry)) (now (out .entry)) ⌝ }
+    ensures { λ r. ⌜ r ≡ handing.handedTo annexD port (portAt b port) end mark (now (spdu .entry)) (now (safe .entry)) (length (now (out .entry))) ⌝ }
+    ensures { λ _. ⌜ now (out .exit) ≡ handing.handedOut annexD port (portAt b port) end mark (now (spdu .entry)) (now (safe .entry)) (now (out .entry)) ⌝ }
 {
     let p = port_at(b, port);
     let holds = safe_holds_at(end, p.setting.params, safe);
     let a = lent_answer(port, p, end, mark, spdu.len(), holds);
     if answer::is_taken(a) {
-        let part = part_at(end, p, mark, spdu, safe);
+        let part = part_at(engine, end, p, mark, spdu, safe);
         if part.len() <= out.len() {
             let n = bytes::copy(part, out);
             Handed {

@@ -14,7 +14,7 @@ use Rattle.answer.specs.declared.Answer.the-variants.{Taken}
 use Rattle.answer.specs.Rules.{answerBy, First, Kept}
 use Rattle.signature.specs.Signature.{shiftIn, shiftInAll, octet, signature}
 use Rattle.block.specs.Octets.{Octets}
-use Rattle.block.specs.Table22.{blockOf, computed, paramsOf}
+use Rattle.block.specs.Table22.{blockOf, parameterSignature, computed, paramsOf}
 use Rattle.block.specs.Rules.{rulesOn, noParams, judged}
 use Rattle.block.specs.Accepted.{Accepted}
 use Rattle.block.proofs.Answered.{given, taken, taken-params, refused-params}
@@ -98,8 +98,8 @@ pub accepted-met : Accepted 1 (judged good 1 .params)
 unfolding signature octet shiftInAll shiftIn
 accepted-met = accepted good 1 (octets-of good refl) refl
 
-pub in-turn-met : inTurn (blockOf good) (computed good) 1 ≡ answerBy Taken (rulesOn good 1)
-in-turn-met = in-turn good 1 refl refl
+pub in-turn-met : inTurn (blockOf good) (computed parameterSignature good) 1 ≡ answerBy Taken (rulesOn good 1)
+in-turn-met = in-turn parameterSignature good 1 refl refl
 
 -- the block whose octet k is k: each element stands at its offset of Table 22, in its width, most significant octet first
 abbrev counting : List ℕ

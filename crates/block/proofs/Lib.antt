@@ -1,3 +1,4 @@
+pub mod Signed
 pub mod Whole
 pub mod Answered
 pub mod Bounds

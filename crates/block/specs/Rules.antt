@@ -15,7 +15,7 @@ use Rattle.block.specs.declared.Params.{Params}
 use Rattle.block.specs.declared.Signatures.{Signatures}
 use Rattle.block.specs.declared.Block.{Block}
 use Rattle.block.specs.declared.Judged.{Judged}
-use Rattle.block.specs.Table22.{paramsOf, blockOf, computed}
+use Rattle.block.specs.Table22.{paramsOf, blockOf, parameterSignature, computed}
 
 -- the port addressed, and the block's size
 abbrev pub sizeRules : List ℕ → ℕ → List Rule
@@ -45,9 +45,12 @@ agreementRules b right port =
     ∷ rule (not (eqb (found .«FSP_ProtParCRC») (right .«FSP_ProtParCRC»))) (Signature 35)
     ∷ []
 
--- all rules on the octets s, addressed to a port
+-- all rules on the octets s, addressed to a port; by a method of signing, and by the signature itself
+abbrev pub rulesBy : (List ℕ → ℕ) → List ℕ → ℕ → List Rule
+rulesBy sign s port = sizeRules s port ++ (idRules (blockOf s) ++ (fieldRules (blockOf s) ++ agreementRules (blockOf s) (computed sign s) port))
+
 abbrev pub rulesOn : List ℕ → ℕ → List Rule
-rulesOn s port = sizeRules s port ++ (idRules (blockOf s) ++ (fieldRules (blockOf s) ++ agreementRules (blockOf s) (computed s) port))
+rulesOn s port = rulesBy parameterSignature s port
 
 -- no parameters: zeros
 abbrev pub noParams : Params
@@ -84,5 +87,8 @@ noParams = record {
 abbrev pub judgedAs : Answer → Params → Judged
 judgedAs a p = record { answer = a; params = cond (isTaken a) p noParams }
 
+abbrev pub judgedBy : (List ℕ → ℕ) → List ℕ → ℕ → Judged
+judgedBy sign s port = judgedAs (answerBy Taken (rulesBy sign s port)) (paramsOf s)
+
 abbrev pub judged : List ℕ → ℕ → Judged
-judged s port = judgedAs (answerBy Taken (rulesOn s port)) (paramsOf s)
+judged s port = judgedBy parameterSignature s port

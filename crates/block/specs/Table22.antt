@@ -2,7 +2,9 @@
 use Prim.Native.Nat.{ℕ}
 use mathlib.Core.List.{List}
 use Rattle.gf2.specs.Generators.{generator16}
+use Rattle.signature.specs.declared.Engine.{Engine}
 use Rattle.signature.specs.Signature.{signature}
+use Rattle.signature.specs.Engines.{signedBy}
 use Rattle.block.specs.declared.Params.{Params}
 use Rattle.block.specs.declared.Signatures.{Signatures}
 use Rattle.block.specs.declared.Block.{Block}
@@ -54,11 +56,15 @@ blockOf s = record { ArgBlockID = unsigned16 s 0; params = paramsOf s; signature
 abbrev pub parameterSignature : List ℕ → ℕ
 parameterSignature octets = signature 16 generator16 0 octets
 
--- the signatures that the block should carry: the authenticity block (Table A.1), the data structure description (Table A.4) and the protocol
--- block (Table A.1)
-abbrev pub computed : List ℕ → Signatures
-computed s = record {
-  «FSP_AuthentCRC» = parameterSignature (offsets 14 22 s);
-  «FSP_IO_StructCRC» = parameterSignature (offsets 37 47 s);
-  «FSP_ProtParCRC» = parameterSignature (offsets 25 34 s);
+-- the same by an engine, where the short table is lent
+abbrev pub parametersBy : Engine → List ℕ → List ℕ → ℕ
+parametersBy e short octets = signedBy e 16 generator16 8 short 0 octets
+
+-- the signatures that the block should carry, by a method of signing: the authenticity block (Table A.1), the data structure description
+-- (Table A.4) and the protocol block (Table A.1)
+abbrev pub computed : (List ℕ → ℕ) → List ℕ → Signatures
+computed sign s = record {
+  «FSP_AuthentCRC» = sign (offsets 14 22 s);
+  «FSP_IO_StructCRC» = sign (offsets 37 47 s);
+  «FSP_ProtParCRC» = sign (offsets 25 34 s);
 }

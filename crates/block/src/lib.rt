@@ -1,13 +1,15 @@
 // The parameter block: the 48 octets of FSPortConfigList (000 Table 22), read, judged and turned into parameters.
 ghost use mathlib.Core.Path.{_≡_};
 ghost use Rattle.answer.specs.Rules.{answerBy};
-ghost use Rattle.block.specs.Rules.{idRules, fieldRules, agreementRules, noParams, judgedAs, judged};
+ghost use Rattle.block.specs.Rules.{idRules, fieldRules, agreementRules, noParams, judgedAs, judgedBy, judged};
+ghost use Rattle.block.specs.Table22.{parametersBy};
 
 mod octets;
 
 use answer::Answer;
 use answer::refuse;
 pub use octets::word;
+use signature::Engine;
 
 // An accepted block as it stands, under 000's names: all but its ID and the three signatures that are checked. The layers above read
 // FSP_Port, FSP_ProtMode, FSP_WatchdogTime (W) and the four lengths: InputDataLength is n, OutputDataLength p, SPDUInLength m, SPDUOutLength o.
@@ -62,9 +64,9 @@ pub struct Judged {
     pub params: Params,
 }
 
-// Judges octets of any length, addressed to any port.
-pub fn judge(octets: &[u8], port: u8) -> Judged
-    ensures { λ r. ⌜ r ≡ judged (now (octets .entry)) port ⌝ }
+// Judges octets of any length, addressed to any port, by an engine; the short table is lent, so that a loop names it once.
+pub fn judge_by(engine: Engine, short: &[u16; 256], octets: &[u8], port: u8) -> Judged
+    ensures { λ r. ⌜ r ≡ judgedBy (parametersBy engine (now (short .entry))) (now (octets .entry)) port ⌝ }
 {
     if ranges::outside(1, 8, port as u32) {
         return Judged {
@@ -79,9 +81,17 @@ pub fn judge(octets: &[u8], port: u8) -> Judged
         };
     }
     let b = octets::block(octets);
-    let right = octets::computed(octets);
+    let right = octets::computed(engine, short, octets);
     let a = agreement(fields(id(b), b), b, right, port);
     judged_as(a, b.params)
+}
+
+// The same with a table of its own: what 000 says, whichever the engine.
+pub fn judge(engine: Engine, octets: &[u8], port: u8) -> Judged
+    ensures { λ r. ⌜ r ≡ judged (now (octets .entry)) port ⌝ }
+{
+    let short = signature::table16_for(engine);
+    judge_by(engine, &short, octets, port)
 }
 
 // The parameters of a port that has none: zeros.

@@ -3,11 +3,13 @@ ghost use mathlib.Core.Path.{_≡_};
 ghost use lib.ListN.{length};
 ghost use Prim.Native.Nat.{_+_, _≤_};
 ghost use Rattle.block.specs.Octets as octets;
-ghost use Rattle.block.specs.Table22.{paramsOf, carried, blockOf};
+ghost use Rattle.block.specs.Table22.{paramsOf, carried, blockOf, parametersBy};
 ghost use Rattle.block.specs.Table22 as table22;
 use crate::Block;
 use crate::Params;
 use crate::Signatures;
+use signature::Engine;
+use signature::signature16_with;
 
 // Two octets as one number.
 pub fn word(a: u8, b: u8) -> u16
@@ -87,13 +89,13 @@ pub(crate) fn block(s: &[u8]) -> Block
 }
 
 // The signatures that the block should carry.
-pub(crate) fn computed(s: &[u8]) -> Signatures
+pub(crate) fn computed(engine: Engine, short: &[u16; 256], s: &[u8]) -> Signatures
     requires { ⌜ length (now s) ≡ 48 ⌝ }
-    ensures { λ r. ⌜ r ≡ table22.computed (now (s .entry)) ⌝ }
+    ensures { λ r. ⌜ r ≡ table22.computed (parametersBy engine (now (short .entry))) (now (s .entry)) ⌝ }
 {
     Signatures {
-        FSP_AuthentCRC: signature::signature16(0, &s[14..23]),
-        FSP_IO_StructCRC: signature::signature16(0, &s[37..48]),
-        FSP_ProtParCRC: signature::signature16(0, &s[25..35]),
+        FSP_AuthentCRC: signature16_with(engine, short, 0, &s[14..23]),
+        FSP_IO_StructCRC: signature16_with(engine, short, 0, &s[37..48]),
+        FSP_ProtParCRC: signature16_with(engine, short, 0, &s[25..35]),
     }
 }

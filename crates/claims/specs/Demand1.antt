@@ -16,6 +16,7 @@ use Rattle.scl.specs.declared.Mark.{Mark}
 use Rattle.bench.specs.declared.Port.{Port}
 use Rattle.bench.specs.declared.Bench.{Bench}
 use Rattle.bench.specs.declared.End.{End}
+use Rattle.bench.specs.Methods.{annexD}
 use Rattle.bench.specs.Ports.{portAt}
 use Rattle.bench.specs.Images.{composeAnswer, composed, buildAnswer, responseOut, splitAnswer, spduPart, otherPart}
 use Rattle.bench.specs.Handing.{handedTo, handedOut}
@@ -37,8 +38,8 @@ pub record Demand1 : Type 0 where
   -- so that nothing that comes later tells whether the call was made
   pub left-out : (later : List Call) (c : Call) (past : List Call) → isTaken (answerOf (history past) c) ≡ false → history (later ++ c ∷ past) ≡ history (later ++ past)
   -- "no buffer": an image that was to be composed, an SPDU that was to be built and a part that was to be copied out stay as they were
-  pub image-unwritten : (port : ℕ) (p : Port) (process other octets : List ℕ) → isTaken (composeAnswer port p process other octets) ≡ false → composed port p process other octets ≡ octets
-  pub spdu-unwritten : (port : ℕ) (p : Port) (process out : List ℕ) → isTaken (buildAnswer port p process out) ≡ false → responseOut port p process out ≡ out
-  pub part-unwritten : (port : ℕ) (p : Port) (e : End) (mark : Mark) (spdu safe out : List ℕ) → isTaken (handedTo port p e mark spdu safe (length out) .answer) ≡ false → handedOut port p e mark spdu safe out ≡ out
+  pub image-unwritten : (port : ℕ) (p : Port) (process other octets : List ℕ) → isTaken (composeAnswer port p process other octets) ≡ false → composed annexD port p process other octets ≡ octets
+  pub spdu-unwritten : (port : ℕ) (p : Port) (process out : List ℕ) → isTaken (buildAnswer port p process out) ≡ false → responseOut annexD port p process out ≡ out
+  pub part-unwritten : (port : ℕ) (p : Port) (e : End) (mark : Mark) (spdu safe out : List ℕ) → isTaken (handedTo annexD port p e mark spdu safe (length out) .answer) ≡ false → handedOut annexD port p e mark spdu safe out ≡ out
   -- and of an image that was to be split nothing is handed out
   pub no-parts : (port : ℕ) (p : Port) (octets : List ℕ) → isTaken (splitAnswer port p octets) ≡ false → (spduPart port p octets ≡ []) × (otherPart port p octets ≡ [])

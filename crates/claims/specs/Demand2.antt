@@ -31,6 +31,7 @@ use Rattle.histogram.specs.Samples.{binCount, Within, inBin, limit, sumOf, lowe
 use Rattle.histogram.specs.Trends.{Shows}
 use Rattle.samples.specs.Samples.{samples}
 use Rattle.bench.specs.declared.Port.{Port}
+use Rattle.bench.specs.Methods.{annexD}
 use Rattle.bench.specs.Ports.{newPort, portAt, stepOf}
 use Rattle.bench.specs.Calls.{responseRules, requestRules, clockRules, operatorRules, responseAt, requestAt, clockAt, operatorAt}
 use Rattle.bench.specs.Images.{composeAnswer, composed, buildAnswer, responseOut}
@@ -73,27 +74,27 @@ pub record PortHolds (q : ℕ) (p : Port) (at : ℕ) (params : Params) (past : L
 -- What is sent, at any port where the call is answered TAKEN: read at the other end of the same parameters it is what the machine holds
 pub record Sends (q : ℕ) (p : Port) : Type 0 where
   pub request : (process other octets : List ℕ) → isTaken (composeAnswer q p process other octets) ≡ true
-      → let sent = take (p .setting .params .SPDUOutLength) (composed q p process other octets) in
+      → let sent = take (p .setting .params .SPDUOutLength) (composed annexD q p process other octets) in
       let m = p .live .master in
       (requestBy byBits (p .setting .params) sent ≡ requestBack (p .setting .params) (m .MCount) (m .setSD) (m .ChFAckReq))
       × (processOf (p .setting .params .«FSP_ProtMode») sent ≡ cond (m .setSD) (replicate (octetsOut p) 0) process)
   pub response : (process out : List ℕ) → isTaken (buildAnswer q p process out) ≡ true → p .live .device .responded ≡ true
       → let d = p .live .device in
-      (responseBy byBits (p .setting .params) (responseOut q p process out) ≡ responseBack (p .setting .params) (d .«DCount_i») (d .SDset) (d .DCommErr) (d .DTimeout))
-      × (processOf (p .setting .params .«FSP_ProtMode») (responseOut q p process out) ≡ process)
+      (responseBy byBits (p .setting .params) (responseOut annexD q p process out) ≡ responseBack (p .setting .params) (d .«DCount_i») (d .SDset) (d .DCommErr) (d .DTimeout))
+      × (processOf (p .setting .params .«FSP_ProtMode») (responseOut annexD q p process out) ≡ process)
   -- until the FS-Device has admitted an SPDU its own is zeros alone (R23), and so it is read
   pub no-response : (process out : List ℕ) → isTaken (buildAnswer q p process out) ≡ true → p .live .device .responded ≡ false
-      → responseBy byBits (p .setting .params) (responseOut q p process out) ≡ zerosBack (p .setting .params)
+      → responseBy byBits (p .setting .params) (responseOut annexD q p process out) ≡ zerosBack (p .setting .params)
 
 -- "Process values appear only where its tables release them, else safe values": what a call hands on that is answered TAKEN. `handsOn`: process octets of
 -- this call's SPDU where the end releases and the SPDU led to a row, zeros where the end does not release, else an empty part, and release goes on
 pub record HandsOn (q : ℕ) (p : Port) (at : ℕ) : Type 0 where
   pub response : (spdu safe : List ℕ) → isTaken (answerBy Taken (responseRules q (p .setting) (length spdu) safe)) ≡ true
-      → let r = responseAt q p at spdu safe .reply in
+      → let r = responseAt annexD q p at spdu safe .reply in
       let mode = p .setting .params .«FSP_ProtMode» in
       image.handedOn (r .master) mode spdu safe ≡ handsOn (r .«master_releases») (responseAdmitted p at (responseBy byBits (p .setting .params) spdu)) (processOf mode spdu) (octetsIn p)
   pub request : (spdu safe : List ℕ) → isTaken (answerBy Taken (requestRules q (p .setting) (length spdu) safe)) ≡ true
-      → let r = requestAt q p at spdu safe .reply in
+      → let r = requestAt annexD q p at spdu safe .reply in
       let mode = p .setting .params .«FSP_ProtMode» in
       image.handedOn (r .device) mode spdu safe ≡ handsOn (r .«device_releases») (requestAdmitted p at (requestBy byBits (p .setting .params) spdu)) (processOf mode spdu) (octetsOut p)
   pub clock : (safeIn safeOut : List ℕ) → isTaken (answerBy Taken (clockRules q (p .setting) safeIn safeOut)) ≡ true

@@ -1,5 +1,5 @@
 -- The session program (01): the text of every list of octets, fed in chunks of any sizes. What a session prints is `printed` (session specs/Run.antt);
--- the contracts of `feed` and `finish` say that they make this text. No field here says that `portbench` reads all octets and writes all text: no contract
+-- the contracts of `feed` and `finish` say that they make this text. No field here says that a program reads all octets and writes all text: no contract
 -- can speak of what a read brings and a write takes; it is run and compared. Assumes nothing.
 use Prim.Native.Nat.{ℕ}
 use mathlib.Core.Path.{_≡_}

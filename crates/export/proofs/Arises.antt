@@ -4,6 +4,7 @@ use mathlib.Core.Bool.{true, false}
 use mathlib.Core.List.{[], _∷_, map}
 use lib.ListN.{replicate}
 use Rattle.answer.specs.declared.Answer.the-variants.{FieldRange, Signature, Buffer, NotRunning, NoSamples}
+use Rattle.signature.specs.declared.Engine.the-variants as engines
 use Rattle.block.specs.declared.Params.{Params}
 use Rattle.scl.specs.declared.Mark.the-variants.{Fresh, GoesOn, Safe}
 use Rattle.scl.specs.declared.Check.the-variants as check
@@ -17,7 +18,7 @@ use Rattle.bench.specs.Images.{splitAnswer, spduPart, otherPart}
 use Rattle.bench.proofs.Arises.{running}
 use Rattle.session.specs.declared.State.{State}
 use Rattle.session.specs.declared.Stop.the-variants.{Full, Bad, Cut, End}
-use Rattle.export.specs.Told.{toldOf}
+use Rattle.export.specs.Told.{toldOf, engineOf}
 use Rattle.export.specs.Outcomes.{deviceTold, masterTold}
 use Rattle.export.specs.Sessions.{stopNumberOf, fedTold}
 use Rattle.export.specs.Benches.{replyTold, splitTold, endOf, handedTold, trendTold, binsTold, masterShown, deviceShown}
@@ -45,6 +46,7 @@ pub record Told (p : Params) (m : Master) (d : Device) (t : TrendPoint) (st : St
   pub shown-device : deviceShown (record { answer = NotRunning; device = d }) ≡ record { number = 9; device = d; unused = replicate 3 0 }
   pub fed : fedTold (record { state = st; used = 5; written = 6; stop = Cut }) ≡ record { state = st; used = 5; written = 6; stop = 2; unused = replicate 7 0 }
   pub stops : map stopNumberOf (Full ∷ Bad ∷ Cut ∷ End ∷ []) ≡ 0 ∷ 1 ∷ 2 ∷ 3 ∷ []
+  pub engines : map engineOf (false ∷ true ∷ []) ≡ engines.Table ∷ engines.Shift ∷ []
   pub ends : map endOf (false ∷ true ∷ []) ≡ end.Master ∷ end.Device ∷ []
 
 pub told : (p : Params) (m : Master) (d : Device) (t : TrendPoint) (st : State) → Told p m d t st
@@ -63,5 +65,6 @@ told p m d t st = record {
   shown-device = refl;
   fed = refl;
   stops = refl;
+  engines = refl;
   ends = refl;
 }

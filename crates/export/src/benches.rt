@@ -3,6 +3,7 @@
 ghost use mathlib.Core.Path.{_≡_};
 ghost use lib.ListN.{length};
 ghost use Rattle.answer.specs.Answers.{numberOf};
+ghost use Rattle.bench.specs.Methods.{annexD};
 ghost use Rattle.bench.specs.Ports.{newBench, portAt};
 ghost use Rattle.bench.specs.Calls as calls;
 ghost use Rattle.bench.specs.Images as images;
@@ -10,6 +11,7 @@ ghost use Rattle.bench.specs.Handing as handing;
 ghost use Rattle.bench.specs.Shown as shown;
 ghost use Rattle.export.specs.Benches as told;
 use crate::histograms::NumberedTrend;
+use crate::signatures::engine_of;
 use bench::BIN_COUNT;
 use bench::Bench;
 use bench::BenchAfter;
@@ -105,40 +107,43 @@ pub extern "C" fn whakelouna_new_bench() -> Bench
 
 #[no_mangle]
 pub extern "C" fn whakelouna_set_parameters(
+    shift: bool,
     bench: Bench,
     port: u8,
     at: u32,
     octets: &[u8],
 ) -> BenchTold
-    ensures { λ r. ⌜ r ≡ told.benchTold (calls.setParameters bench port at (now (octets .entry))) ⌝ }
+    ensures { λ r. ⌜ r ≡ told.benchTold (calls.setParameters annexD bench port at (now (octets .entry))) ⌝ }
 {
-    bench_told(bench::set_parameters(bench, port, at, octets))
+    bench_told(bench::set_parameters(engine_of(shift), bench, port, at, octets))
 }
 
 #[no_mangle]
 pub extern "C" fn whakelouna_receive_response(
+    shift: bool,
     bench: Bench,
     port: u8,
     at: u32,
     spdu: &[u8],
     safe: &[u8],
 ) -> BenchTold
-    ensures { λ r. ⌜ r ≡ told.benchTold (calls.receiveResponse bench port at (now (spdu .entry)) (now (safe .entry))) ⌝ }
+    ensures { λ r. ⌜ r ≡ told.benchTold (calls.receiveResponse annexD bench port at (now (spdu .entry)) (now (safe .entry))) ⌝ }
 {
-    bench_told(bench::receive_response(bench, port, at, spdu, safe))
+    bench_told(bench::receive_response(engine_of(shift), bench, port, at, spdu, safe))
 }
 
 #[no_mangle]
 pub extern "C" fn whakelouna_receive_request(
+    shift: bool,
     bench: Bench,
     port: u8,
     at: u32,
     spdu: &[u8],
     safe: &[u8],
 ) -> BenchTold
-    ensures { λ r. ⌜ r ≡ told.benchTold (calls.receiveRequest bench port at (now (spdu .entry)) (now (safe .entry))) ⌝ }
+    ensures { λ r. ⌜ r ≡ told.benchTold (calls.receiveRequest annexD bench port at (now (spdu .entry)) (now (safe .entry))) ⌝ }
 {
-    bench_told(bench::receive_request(bench, port, at, spdu, safe))
+    bench_told(bench::receive_request(engine_of(shift), bench, port, at, spdu, safe))
 }
 
 #[no_mangle]
@@ -171,6 +176,7 @@ pub extern "C" fn whakelouna_operator(
 // Writes the FS-Master's outgoing image and returns the answer's number.
 #[no_mangle]
 pub extern "C" fn whakelouna_compose(
+    shift: bool,
     bench: Bench,
     port: u8,
     process: &[u8],
@@ -178,23 +184,24 @@ pub extern "C" fn whakelouna_compose(
     octets: &mut [u8],
 ) -> u8
     ensures { λ r. ⌜ r ≡ numberOf (images.composeAnswer port (portAt bench port) (now (process .entry)) (now (other .entry)) (now (octets .entry))) ⌝ }
-    ensures { λ _. ⌜ now (octets .exit) ≡ images.composed port (portAt bench port) (now (process .entry)) (now (other .entry)) (now (octets .entry)) ⌝ }
+    ensures { λ _. ⌜ now (octets .exit) ≡ images.composed annexD port (portAt bench port) (now (process .entry)) (now (other .entry)) (now (octets .entry)) ⌝ }
 {
-    answer::number(bench::compose(bench, port, process, other, octets))
+    answer::number(bench::compose(engine_of(shift), bench, port, process, other, octets))
 }
 
 // Writes the FS-Device's outgoing SPDU and returns the answer's number.
 #[no_mangle]
 pub extern "C" fn whakelouna_build_response(
+    shift: bool,
     bench: Bench,
     port: u8,
     process: &[u8],
     out: &mut [u8],
 ) -> u8
     ensures { λ r. ⌜ r ≡ numberOf (images.buildAnswer port (portAt bench port) (now (process .entry)) (now (out .entry))) ⌝ }
-    ensures { λ _. ⌜ now (out .exit) ≡ images.responseOut port (portAt bench port) (now (process .entry)) (now (out .entry)) ⌝ }
+    ensures { λ _. ⌜ now (out .exit) ≡ images.responseOut annexD port (portAt bench port) (now (process .entry)) (now (out .entry)) ⌝ }
 {
-    answer::number(bench::build_response(bench, port, process, out))
+    answer::number(bench::build_response(engine_of(shift), bench, port, process, out))
 }
 
 #[no_mangle]
@@ -238,6 +245,7 @@ fn end_of(device: bool) -> End
 // Copies what a call with this mark handed on to the front of out.
 #[no_mangle]
 pub extern "C" fn whakelouna_handed_on<'a>(
+    shift: bool,
     bench: Bench,
     port: u8,
     device: bool,
@@ -246,12 +254,21 @@ pub extern "C" fn whakelouna_handed_on<'a>(
     safe: &'a [u8],
     out: &mut [u8],
 ) -> HandedTold
-    ensures { λ r. ⌜ r ≡ told.handedTold (handing.handedTo port (portAt bench port) (told.endOf device) (told.markNumbered mark) (now (spdu .entry)) (now (safe .entry)) (length (now (out .entry)))) ⌝ }
-    ensures { λ _. ⌜ now (out .exit) ≡ handing.handedOut port (portAt bench port) (told.endOf device) (told.markNumbered mark) (now (spdu .entry)) (now (safe .entry)) (now (out .entry)) ⌝ }
+    ensures { λ r. ⌜ r ≡ told.handedTold (handing.handedTo annexD port (portAt bench port) (told.endOf device) (told.markNumbered mark) (now (spdu .entry)) (now (safe .entry)) (length (now (out .entry)))) ⌝ }
+    ensures { λ _. ⌜ now (out .exit) ≡ handing.handedOut annexD port (portAt bench port) (told.endOf device) (told.markNumbered mark) (now (spdu .entry)) (now (safe .entry)) (now (out .entry)) ⌝ }
 {
     let unused = [0u8; 7];
     let end = end_of(device);
-    let handed = bench::hand_on(bench, port, end, mark_numbered(mark), spdu, safe, out);
+    let handed = bench::hand_on(
+        engine_of(shift),
+        bench,
+        port,
+        end,
+        mark_numbered(mark),
+        spdu,
+        safe,
+        out,
+    );
     let answer = handed.answer;
     HandedTold {
         number: answer::number(answer),

@@ -3,6 +3,7 @@ ghost use mathlib.Core.Path.{_≡_};
 ghost use lib.ListN.{length};
 ghost use Rattle.session.specs.Run as runs;
 ghost use Rattle.export.specs.Sessions as told;
+use crate::signatures::engine_of;
 use session::Fed;
 use session::State;
 use session::Stop;
@@ -51,11 +52,16 @@ pub extern "C" fn whakelouna_session_start() -> State
 
 // Uses the whole records of a chunk, and writes their lines at the front of out.
 #[no_mangle]
-pub extern "C" fn whakelouna_session_feed(st: State, s: &[u8], out: &mut [u8]) -> FedTold
+pub extern "C" fn whakelouna_session_feed(
+    shift: bool,
+    st: State,
+    s: &[u8],
+    out: &mut [u8],
+) -> FedTold
     ensures { λ r. ⌜ r ≡ told.fedTold (runs.fedOf st (now (s .entry)) (length (now (out .entry)))) ⌝ }
     ensures { λ _. ⌜ now (out .exit) ≡ runs.fedText st (now (s .entry)) (now (out .entry)) ⌝ }
 {
-    fed_told(session::feed(st, s, out))
+    fed_told(session::feed(engine_of(shift), st, s, out))
 }
 
 // Writes what is printed at the end, where some octets are left or none are, at the front of out, and returns how many octets that is.

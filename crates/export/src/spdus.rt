@@ -2,40 +2,45 @@
 ghost use mathlib.Core.Path.{_≡_};
 ghost use lib.ListN.{length};
 ghost use Rattle.answer.specs.Answers.{numberOf};
-ghost use Rattle.spdu.specs.Signature.{byTables};
+ghost use Rattle.spdu.specs.Signature.{byEngine};
 ghost use Rattle.spdu.specs.Fields.{responseBy, requestBy};
 ghost use Rattle.spdu.specs.Built.{buffersHold, builtAs, requestBuilt, responseBuilt};
+ghost use Rattle.export.specs.Told.{engineOf};
+use crate::signatures::engine_of;
 use block::Params;
 use scl::Request;
 use scl::Response;
 
 #[no_mangle]
 pub extern "C" fn whakelouna_read_response_by(
+    shift: bool,
     short: &[u16; 256],
     long: &[u32; 16],
     p: Params,
     octets: &[u8],
 ) -> Response
-    ensures { λ r. ⌜ r ≡ responseBy (byTables (now (short .entry)) (now (long .entry))) p (now (octets .entry)) ⌝ }
+    ensures { λ r. ⌜ r ≡ responseBy (byEngine (engineOf shift) (now (short .entry)) (now (long .entry))) p (now (octets .entry)) ⌝ }
 {
-    spdu::read_response_by(short, long, p, octets)
+    spdu::read_response_by(engine_of(shift), short, long, p, octets)
 }
 
 #[no_mangle]
 pub extern "C" fn whakelouna_read_request_by(
+    shift: bool,
     short: &[u16; 256],
     long: &[u32; 16],
     p: Params,
     octets: &[u8],
 ) -> Request
-    ensures { λ r. ⌜ r ≡ requestBy (byTables (now (short .entry)) (now (long .entry))) p (now (octets .entry)) ⌝ }
+    ensures { λ r. ⌜ r ≡ requestBy (byEngine (engineOf shift) (now (short .entry)) (now (long .entry))) p (now (octets .entry)) ⌝ }
 {
-    spdu::read_request_by(short, long, p, octets)
+    spdu::read_request_by(engine_of(shift), short, long, p, octets)
 }
 
 // Writes the FS-Master's SPDU and returns the answer's number.
 #[no_mangle]
 pub extern "C" fn whakelouna_build_request_by(
+    shift: bool,
     short: &[u16; 256],
     long: &[u32; 16],
     p: Params,
@@ -46,14 +51,25 @@ pub extern "C" fn whakelouna_build_request_by(
     out: &mut [u8],
 ) -> u8
     ensures { λ r. ⌜ r ≡ numberOf (builtAs (buffersHold (p .«FSP_ProtMode») (p .SPDUOutLength) (length (now (process .entry))) (length (now (out .entry))))) ⌝ }
-    ensures { λ _. ⌜ now (out .exit) ≡ requestBuilt (byTables (now (short .entry)) (now (long .entry))) p MCount setSD ChFAckReq (now (process .entry)) (now (out .entry)) ⌝ }
+    ensures { λ _. ⌜ now (out .exit) ≡ requestBuilt (byEngine (engineOf shift) (now (short .entry)) (now (long .entry))) p MCount setSD ChFAckReq (now (process .entry)) (now (out .entry)) ⌝ }
 {
-    answer::number(spdu::build_request_by(short, long, p, MCount, setSD, ChFAckReq, process, out))
+    answer::number(spdu::build_request_by(
+        engine_of(shift),
+        short,
+        long,
+        p,
+        MCount,
+        setSD,
+        ChFAckReq,
+        process,
+        out,
+    ))
 }
 
 // Writes the FS-Device's SPDU and returns the answer's number.
 #[no_mangle]
 pub extern "C" fn whakelouna_build_response_by(
+    shift: bool,
     short: &[u16; 256],
     long: &[u32; 16],
     p: Params,
@@ -66,9 +82,10 @@ pub extern "C" fn whakelouna_build_response_by(
     out: &mut [u8],
 ) -> u8
     ensures { λ r. ⌜ r ≡ numberOf (builtAs (buffersHold (p .«FSP_ProtMode») (p .SPDUInLength) (length (now (process .entry))) (length (now (out .entry))))) ⌝ }
-    ensures { λ _. ⌜ now (out .exit) ≡ responseBuilt (byTables (now (short .entry)) (now (long .entry))) p responded «DCount_i» SDset DCommErr DTimeout (now (process .entry)) (now (out .entry)) ⌝ }
+    ensures { λ _. ⌜ now (out .exit) ≡ responseBuilt (byEngine (engineOf shift) (now (short .entry)) (now (long .entry))) p responded «DCount_i» SDset DCommErr DTimeout (now (process .entry)) (now (out .entry)) ⌝ }
 {
     answer::number(spdu::build_response_by(
+        engine_of(shift),
         short,
         long,
         p,

@@ -20,17 +20,18 @@ use Rattle.fs_master.specs.Calls as masters
 use Rattle.fs_master.specs.History.{masterAfter, watchedIn, passesBy, previousBy, lastAdmitted, isOldAfter}
 use Rattle.histogram.specs.Samples.{limit}
 use Rattle.samples.specs.Samples.{oldBy, sentSince, passedForCount, timeOf, isSample, samples}
+use Rattle.bench.specs.Methods.{annexD}
 use Rattle.bench.specs.declared.Setting.{Setting}
 use Rattle.bench.specs.declared.Bench.{Bench}
 use Rattle.bench.specs.declared.Act.the-variants.{Refused, Accepted, Happens}
 use Rattle.bench.specs.Ports.{newBench, newPort, acceptedPort, portAt, withPort, stepOf, said, silent}
 use Rattle.bench.specs.Calls.{asked, askedByBlock, done, placed}
-use Rattle.bench.specs.History.{addressed, answerOf, after, history, never, since, goesOn, extended, sinceBlock}
-use Rattle.bench.proofs.Arises.{uneven}
+use Rattle.bench.specs.History.{addressed, never, since, goesOn, extended, sinceBlock, resultOf, historyBy}
+use Rattle.bench.proofs.Arises.{uneven, signsZero}
 use Rattle.session.specs.declared.Stop.the-variants.{Full, Bad, Cut, End}
 use Rattle.lines.specs.Text.{numeral, refusalLine, summaryLine, portLine}
 use Rattle.session.specs.Text.{lineOfPort, portLines}
-use Rattle.session.specs.Run.{Entry, entry, actBy, callsOf, start, ran, applied, recordLine, closing, printed, fedOf, more}
+use Rattle.session.specs.Run.{Entry, entry, actBy, callsOf, start, ran, closing, printed, fedOf, more, appliedBy, printedBy, recordLineBy}
 use Rattle.session.specs.Chunks.{none, chunk}
 use Rattle.session.proofs.Chunks.{at-end, at-bad}
 use Rattle.session.proofs.Shown.{line-shown, no-line}
@@ -48,8 +49,13 @@ three-octets = at-end ((0x53 ∷ 0x4C ∷ []) ∷ (3 ∷ []) ∷ []) (chunk 1 (c
 pub zero-block : printed (0x53 ∷ 0x4C ∷ 1 ∷ 1 ∷ 0 ∷ 0 ∷ 0 ∷ 0 ∷ 48 ∷ replicate 48 0)
     ≡ (114 ∷ 32 ∷ 49 ∷ 32 ∷ 99 ∷ 111 ∷ 100 ∷ 101 ∷ 32 ∷ 50 ∷ 10 ∷ [])
     ++ (114 ∷ 101 ∷ 99 ∷ 111 ∷ 114 ∷ 100 ∷ 115 ∷ 32 ∷ 49 ∷ 32 ∷ 114 ∷ 101 ∷ 102 ∷ 117 ∷ 115 ∷ 101 ∷ 100 ∷ 32 ∷ 49 ∷ 10 ∷ [])
-unfolding printed closing numeral refusalLine summaryLine lineOfPort portLines newBench newPort portAt withPort applied recordLine answerOf after placed asked askedByBlock done silent
+unfolding printedBy closing numeral refusalLine summaryLine lineOfPort portLines newBench newPort portAt withPort appliedBy recordLineBy resultOf placed asked askedByBlock done silent
 zero-block = refl
+
+-- the text goes by the method of signing: by one that signs all 0 a sound block is refused, and its port has no line
+pub by-method : printedBy signsZero (0x53 ∷ 0x4C ∷ 1 ∷ 1 ∷ 0 ∷ 0 ∷ 0 ∷ 0 ∷ 48 ∷ uneven) ≡ refusalLine 1 6 ++ summaryLine 1 1
+unfolding printedBy closing numeral refusalLine summaryLine lineOfPort portLines newBench newPort portAt withPort appliedBy recordLineBy resultOf placed asked askedByBlock done silent
+by-method = refl
 
 -- a bad record, whatever follows it
 pub bad-mark : (more : List ℕ) → printed (replicate 9 0 ++ more) ≡ closing start true
@@ -66,7 +72,7 @@ pub each-stop :
     × (fedOf start clock 64 .stop ≡ End)
     × (fedOf start clock 64 .used ≡ 9)
     × (fedOf start clock 64 .written ≡ 11)
-unfolding fedOf recordLine numeral refusalLine newBench newPort portAt answerOf placed asked done silent
+unfolding fedOf recordLineBy numeral refusalLine newBench newPort portAt resultOf placed asked done silent
 each-stop = (refl, refl, refl, refl, refl, refl)
 
 -- A, B and N stop at 2^64 - 1 (R29)
@@ -87,12 +93,12 @@ abbrev on : Setting
 on = record { params = noParams; running = true; unused = [] }
 
 pub each-act :
-    (actBy byBits false off (entry 3 1 0 []) ≡ Refused NotRunning)
-    × (actBy byBits false off (entry 1 1 0 uneven) ≡ Accepted (paramsOf uneven))
-    × (actBy byBits false on (entry 3 1 7 []) ≡ Happens (Clock 7))
+    (actBy annexD false off (entry 3 1 0 []) ≡ Refused NotRunning)
+    × (actBy annexD false off (entry 1 1 0 uneven) ≡ Accepted (paramsOf uneven))
+    × (actBy annexD false on (entry 3 1 7 []) ≡ Happens (Clock 7))
     -- "bit 0 setSD_C, bit 1 ChFAck_C"
-    × (actBy byBits false on (entry 4 1 7 (1 ∷ [])) ≡ Happens (Operator 7 true false))
-    × (actBy byBits false on (entry 4 1 7 (2 ∷ [])) ≡ Happens (Operator 7 false true))
+    × (actBy annexD false on (entry 4 1 7 (1 ∷ [])) ≡ Happens (Operator 7 true false))
+    × (actBy annexD false on (entry 4 1 7 (2 ∷ [])) ≡ Happens (Operator 7 false true))
 unfolding asked askedByBlock signing.signature signing.octet signing.shiftInAll signing.shiftIn
 each-act = (refl, refl, refl, refl, refl)
 
@@ -113,7 +119,7 @@ record Since : Type 0 where
   sample : samples 1000 100 past ≡ 10 ∷ []
 
 since-met : Since
-unfolding sinceBlock extended goesOn addressed answerOf after history asked askedByBlock done placed portAt withPort newBench newPort silent signing.signature signing.octet signing.shiftInAll signing.shiftIn acceptedPort stepOf said samples isSample sentSince passedForCount oldBy isOldAfter lastAdmitted previousBy timeOf masterAfter watchedIn passesBy elapsedOf table38.watchdogRow table38.isOld table38.isAdmitted table38.acted masters.watched
+unfolding sinceBlock extended goesOn addressed resultOf historyBy asked askedByBlock done placed portAt withPort newBench newPort silent signing.signature signing.octet signing.shiftInAll signing.shiftIn acceptedPort stepOf said samples isSample sentSince passedForCount oldBy isOldAfter lastAdmitted previousBy timeOf masterAfter watchedIn passesBy elapsedOf table38.watchdogRow table38.isOld table38.isAdmitted table38.acted masters.watched
 since-met = record { one = refl; none = refl; sample = refl }
 
 pub line-shown-met : lineOfPort 1 (portAt (ran start records .bench) 1) ≡ portLine 1 100 1 10 10

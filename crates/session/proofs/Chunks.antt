@@ -10,28 +10,11 @@ use lib.ListN.{length, drop, length-drop}
 use lib.Seq.{drop-append-le, take-append-le, drop-drop}
 use borrow.Author.Tests.{ltb-false}
 use Rattle.bench.specs.declared.Bench.{Bench}
-use Rattle.bench.specs.History.{Call, history, after}
+use Rattle.bench.specs.History.{Call, history, after, historyBy}
 use Rattle.session.specs.declared.State.{State}
 use Rattle.record.specs.Format.{kindOf, portOf, clockOf, lengthOf, octetsOf, sizeOf, Form, nothing, part, bad, whole, form}
 use Rattle.session.specs.Text.{lineRoom}
-use Rattle.session.specs.Run.{
-  Entry,
-  entry,
-  entryOf,
-  isWhole,
-  recordsOf,
-  restOf,
-  callOf,
-  callsOf,
-  start,
-  applied,
-  recordLine,
-  ran,
-  linesOf,
-  closing,
-  printed,
-  fedOf,
-}
+use Rattle.session.specs.Run.{Entry, entry, entryOf, isWhole, recordsOf, restOf, callOf, callsOf, start, applied, recordLine, ran, linesOf, closing, printed, fedOf, appliedBy, printedBy}
 use Rattle.session.specs.Chunks.{InChunks, none, chunk, together}
 use Rattle.record.proofs.Form.{at-kept, whole-kept, bad-kept, bad-some, tests-of, whole-fits}
 use Rattle.session.proofs.Link.{no-record, no-rest, first-record, first-rest}
@@ -121,7 +104,7 @@ held {r = r} {r₂} {st = st} (chunk n {b} {o = o} {bs = bs} d) =
 -- what is printed, where what the chunks left, with octets behind it that were not read, begins with no whole record
 pub at-once : (bs : List (List ℕ)) (more : List ℕ) {st : State} {r o : List ℕ} → InChunks bs start [] st r o → isWhole (form (r ++ more)) ≡ false
     → printed (together bs ++ more) ≡ o ++ closing st (not (eqb (length (r ++ more)) 0))
-unfolding printed
+unfolding printedBy
 at-once bs more {st} {r} {o} d e =
     let i = held d in
     let s = together bs ++ more in
@@ -144,7 +127,7 @@ at-bad bs more {st} {r} {o} d f =
 -- ---- The bench
 
 one-call : (past : List Call) (st : State) (x : Entry) → st .bench ≡ history past → applied st x .bench ≡ history (callOf (history past) x ∷ past)
-unfolding applied history
+unfolding appliedBy historyBy
 one-call past st x e = ap (λ (b : Bench). after b (callOf b x)) e
 
 history-from : (past : List Call) (st : State) (rs : List Entry) → st .bench ≡ history past → ran st rs .bench ≡ history (callsOf past rs)
@@ -153,7 +136,7 @@ history-from past st (x ∷ rs) e = history-from (callOf (history past) x ∷ pa
 
 -- The bench after the records is that of their calls: what holds of every history holds of every session.
 pub bench-of-history : (rs : List Entry) → ran start rs .bench ≡ history (callsOf [] rs)
-unfolding history
+unfolding historyBy
 bench-of-history rs = history-from [] start rs refl
 
 -- ---- What `feed` uses up

@@ -5,12 +5,12 @@ use mathlib.Core.Path.{_≡_, refl, sym, ap, _∙_}
 use mathlib.Core.List.{List, []}
 use lib.ListN.{length, getD, take, drop, length-drop}
 use Rattle.ranges.specs.Fields.{outside}
-use Rattle.spdu.specs.Signature.{byBits}
 use Rattle.bench.specs.declared.Setting.{Setting}
 use Rattle.bench.specs.declared.Live.{Live}
 use Rattle.bench.specs.declared.Port.{Port}
 use Rattle.bench.specs.declared.Place.{Place}
 use Rattle.bench.specs.declared.Act.{Act}
+use Rattle.bench.specs.Methods.{Method, annexD}
 use Rattle.bench.specs.Ports.{noPort, placeOf}
 use Rattle.record.specs.Format.{form}
 use Rattle.record.proofs.Form.{Found, whole-fits}
@@ -35,8 +35,8 @@ module _ {st₀ : State} {s out₀ : List ℕ} {room records : ℕ} {out : List 
     (g : Going st₀ s out₀ room records out settings lives bins refused left at written) (one : 0 < left)
     {kind port clock start next : ℕ} (f : Found (form (drop at s)) (drop at s) at kind port clock start next)
     {place : Place} (here : place ≡ placeOf port) (below : place .index < 8) (xs : Setting) (xl : Live)
-    {sign : ℕ → List ℕ → ℕ} (method : sign ≡ byBits)
-    {a : Act} (asked : a ≡ actBy sign (place .outside) (getD settings (place .index) xs) (entry kind port clock (take (next - start) (drop start s)))) where
+    {by : Method} (method : by ≡ annexD)
+    {a : Act} (asked : a ≡ actBy by (place .outside) (getD settings (place .index) xs) (entry kind port clock (take (next - start) (drop start s)))) where
   number-is : plus records (room - (left - 1)) ≡ more (plus records (room - left))
   number-is =
       let n : room - (left - 1) ≡ room - left + 1 = omega (arith, g .some) in
@@ -47,8 +47,8 @@ module _ {st₀ : State} {s out₀ : List ℕ} {room records : ℕ} {out : List 
       sym (ap (λ (p : Port). p .setting) (getD-columns settings lives bins (g .eight) (place .index) xs xl [] noPort below))
       ∙ ap (λ (q : Place). getD (portsOf settings lives bins) (q .index) noPort .setting) here
 
-  asked-here : a ≡ actBy sign (outside 1 8 port) (getD settings (place .index) xs) (entry kind port clock (take (next - start) (drop start s)))
-  asked-here = asked ∙ ap (λ (q : Place). actBy sign (q .outside) (getD settings (place .index) xs) (entry kind port clock (take (next - start) (drop start s)))) here
+  asked-here : a ≡ actBy by (outside 1 8 port) (getD settings (place .index) xs) (entry kind port clock (take (next - start) (drop start s)))
+  asked-here = asked ∙ ap (λ (q : Place). actBy by (q .outside) (getD settings (place .index) xs) (entry kind port clock (take (next - start) (drop start s)))) here
 
   pub goes-on : {out′ : List ℕ} {settings′ : List Setting} {lives′ : List Live} {bins′ : List (List ℕ)} {refused′ written′ : ℕ}
       → Acted settings lives bins (place .index) clock settings′ lives′ bins′ a
@@ -58,7 +58,7 @@ module _ {st₀ : State} {s out₀ : List ℕ} {room records : ℕ} {out : List 
       → Going st₀ s out₀ room records out′ settings′ lives′ bins′ refused′ (left - 1) next written′
   goes-on {out′} {settings′} {lives′} {bins′} {refused′} {written′} acted hr v w n =
       let l = stepped st₀ s out₀ room out (packed settings lives bins) (plus records (room - left)) refused left at written (g .link)
-      out′ kind port clock start next (plus records (room - (left - 1))) written′ (getD settings (place .index) xs) a sign f one method setting-is asked-here number-is v in
+      out′ kind port clock start next (plus records (room - (left - 1))) written′ (getD settings (place .index) xs) a by f one method setting-is asked-here number-is v in
       let ports : portsOf settings′ lives′ bins′ ≡ actPorts (portsOf settings lives bins) (placeOf port .index) clock a =
       acted .ports ∙ ap (λ (q : Place). actPorts (portsOf settings lives bins) (q .index) clock a) here in
       record {

@@ -4,4 +4,5 @@ pub mod Link
 pub mod Going
 pub mod Chunks
 pub mod Shown
+pub mod Engines
 pub mod Arises

@@ -9,8 +9,8 @@ use lib.ListN.{length, getD, take, drop, length-drop, take-append-drop}
 use lib.Seq.{drop-drop, length-take-le}
 use Rattle.io.specs.Counts.{Counts}
 use Rattle.answer.specs.declared.Answer.{Answer}
-use Rattle.spdu.specs.Signature.{byBits}
 use Rattle.ranges.specs.Fields.{outside}
+use Rattle.bench.specs.Methods.{Method, annexD}
 use Rattle.bench.specs.declared.Setting.{Setting}
 use Rattle.bench.specs.declared.Bench.{Bench}
 use Rattle.bench.specs.declared.Act.{Act}
@@ -21,29 +21,7 @@ use Rattle.session.specs.declared.Stop.{Stop}
 use Rattle.session.specs.declared.Fed.{Fed}
 use Rattle.record.specs.Format.{lengthOf, sizeOf, Form, whole, form}
 use Rattle.session.specs.Text.{Written, lineRoom}
-use Rattle.session.specs.Run.{
-  Entry,
-  entry,
-  entryOf,
-  isWhole,
-  recordsOf,
-  restOf,
-  actBy,
-  callOf,
-  more,
-  plus,
-  stateOf,
-  refusedAfter,
-  applied,
-  lineFor,
-  recordLine,
-  ran,
-  linesOf,
-  stopOf,
-  fedOf,
-  fedText,
-  fronted,
-}
+use Rattle.session.specs.Run.{Entry, entry, entryOf, isWhole, recordsOf, restOf, actBy, callOf, more, plus, stateOf, refusedAfter, applied, lineFor, recordLine, ran, linesOf, stopOf, fedOf, fedText, fronted, appliedBy, recordLineBy}
 use Rattle.record.proofs.Form.{Found}
 use Rattle.bench.proofs.Acted.{actPorts, answerIn}
 use Rattle.session.proofs.Turn.{turn-bench, turn-answer}
@@ -158,7 +136,7 @@ pub more-plus : (records n : ℕ) → plus records (n + 1) ≡ more (plus record
 more-plus records n = omega arith
 
 module _ (b : Bench) (records refused : ℕ) (e : Entry) (a : Act)
-    (ha : a ≡ actBy byBits (outside 1 8 (e .port)) (getD (b .ports) (placeOf (e .port) .index) noPort .setting) e) where
+    (ha : a ≡ actBy annexD (outside 1 8 (e .port)) (getD (b .ports) (placeOf (e .port) .index) noPort .setting) e) where
   abbrev st : State
   st = stateOf b records refused
 
@@ -172,13 +150,13 @@ module _ (b : Bench) (records refused : ℕ) (e : Entry) (a : Act)
   bench-is = ap (λ (a : Act). record { ports = actPorts (b .ports) (placeOf (e .port) .index) (e .at) a }) ha ∙ turn-bench b e
 
   state-after : stateOf later (more records) (refusedAfter refused (answerIn a)) ≡ applied st e
-  unfolding applied
+  unfolding appliedBy
   state-after =
       ap (λ (z : Bench). stateOf z (more records) (refusedAfter refused (answerIn a))) bench-is
       ∙ ap (λ (x : Answer). stateOf (after b (callOf b e)) (more records) (refusedAfter refused x)) answer-is
 
   line-after : lineFor (more records) (answerIn a) ≡ recordLine st e
-  unfolding recordLine
+  unfolding recordLineBy
   line-after = ap (λ (x : Answer). lineFor (more records) x) answer-is
 
 -- the record that stands at a position
@@ -191,19 +169,19 @@ entry-found s at kind port clock start next f =
 
 module _ (st₀ : State) (s out₀ : List ℕ) (n : ℕ) (out : List ℕ) (b : Bench) (records refused n′ at w : ℕ)
     (l : Link st₀ s out₀ n out (stateOf b records refused) n′ at w) where
-  pub stepped : (out′ : List ℕ) (kind port clock start next m w′ : ℕ) (setting : Setting) (a : Act) (sign : ℕ → List ℕ → ℕ)
-      → Found (form (drop at s)) (drop at s) at kind port clock start next → 0 < n′ → sign ≡ byBits
+  pub stepped : (out′ : List ℕ) (kind port clock start next m w′ : ℕ) (setting : Setting) (a : Act) (by : Method)
+      → Found (form (drop at s)) (drop at s) at kind port clock start next → 0 < n′ → by ≡ annexD
       → setting ≡ getD (b .ports) (placeOf port .index) noPort .setting
-      → a ≡ actBy sign (outside 1 8 port) setting (entry kind port clock (take (next - start) (drop start s)))
+      → a ≡ actBy by (outside 1 8 port) setting (entry kind port clock (take (next - start) (drop start s)))
       → m ≡ more records → Written out w (lineFor m (answerIn a)) w′ out′
       → Link st₀ s out₀ n out′ (stateOf (record { ports = actPorts (b .ports) (placeOf port .index) clock a }) m (refusedAfter refused (answerIn a))) (n′ - 1) next w′
-  stepped out′ kind port clock start next m w′ setting a sign f h hs hp ha hm v =
+  stepped out′ kind port clock start next m w′ setting a by f h hs hp ha hm v =
       let e = entry kind port clock (take (next - start) (drop start s)) in
       let is : e ≡ entryOf (drop at s) = entry-found s at kind port clock start next f in
-      let ha′ : a ≡ actBy byBits (outside 1 8 port) (getD (b .ports) (placeOf port .index) noPort .setting) e =
+      let ha′ : a ≡ actBy annexD (outside 1 8 port) (getD (b .ports) (placeOf port .index) noPort .setting) e =
       ha
-      ∙ ap (λ (sign : ℕ → List ℕ → ℕ). actBy sign (outside 1 8 port) setting e) hs
-      ∙ ap (λ (s : Setting). actBy byBits (outside 1 8 port) s e) hp in
+      ∙ ap (λ (by : Method). actBy by (outside 1 8 port) setting e) hs
+      ∙ ap (λ (s : Setting). actBy annexD (outside 1 8 port) s e) hp in
       again l (f .is-whole) h (f .next)
       (ap (λ (m : ℕ). stateOf (later b records refused e a ha′) m (refusedAfter refused (answerIn a))) hm ∙ state-after b records refused e a ha′ ∙ ap (λ (e : Entry). applied (stateOf b records refused) e) is)
       (ap (λ (m : ℕ). lineFor m (answerIn a)) hm ∙ line-after b records refused e a ha′ ∙ ap (λ (e : Entry). recordLine (stateOf b records refused) e) is)

@@ -6,15 +6,17 @@ use lib.ListN.{getD}
 use Rattle.answer.specs.declared.Answer.the-variants as answers
 use Rattle.ranges.specs.Fields.{outside}
 use Rattle.block.specs.declared.Params.{Params}
+use Rattle.block.specs.Table22.{parameterSignature}
 use Rattle.spdu.specs.Signature.{byBits}
 use Rattle.bench.specs.declared.Setting.{Setting}
 use Rattle.bench.specs.declared.Port.{Port}
 use Rattle.bench.specs.declared.Bench.{Bench}
 use Rattle.bench.specs.declared.Act.{Act}
 use Rattle.bench.specs.declared.Act.the-variants.{Refused}
+use Rattle.bench.specs.Methods.{annexD}
 use Rattle.bench.specs.Ports.{noPort, placeOf, portAt}
 use Rattle.bench.specs.Calls as calls
-use Rattle.bench.specs.History.{answerOf, after}
+use Rattle.bench.specs.History.{answerOf, after, resultOf}
 use Rattle.bench.proofs.Acted.{benchOf, actPorts, answerIn, act-bench, act-answer, nowhere-block, nowhere-response, nowhere-clock, nowhere-operator}
 use Rattle.session.specs.Run.{Entry, safeIn, safeOut, setSDIn, ackIn, actBy, callOf}
 use Rattle.session.proofs.Seven.{safe-in, safe-out, call}
@@ -39,7 +41,7 @@ module _ (b : Bench) (e : Entry) where
 
   -- by three tests of its kind
   abbrev act : Bool → Bool → Bool → Act
-  act k₁ k₂ k₃ = cond k₁ (calls.parametersAct (e .port) (e .octets)) (cond k₂ (response true) (cond k₃ (clock true) (operator true)))
+  act k₁ k₂ k₃ = cond k₁ (calls.parametersAct parameterSignature (e .port) (e .octets)) (cond k₂ (response true) (cond k₃ (clock true) (operator true)))
 
   abbrev q : Params
   q = p .setting .params
@@ -58,14 +60,14 @@ module _ (b : Bench) (e : Entry) where
     by-operator = ap (λ (h : Bool). f (operator h)) (safe-in q)
 
   after-by : (k₁ k₂ k₃ : Bool) → after b (call b e k₁ k₂ k₃) ≡ calls.placed b (e .port) (calls.done p (e .at) (act k₁ k₂ k₃)) .bench
-  unfolding after
+  unfolding resultOf
   after-by true k₂ k₃ = refl
   after-by false true k₃ = by-response (λ (a : Act). calls.placed b (e .port) (calls.done p (e .at) a) .bench)
   after-by false false true = by-clock (λ (a : Act). calls.placed b (e .port) (calls.done p (e .at) a) .bench)
   after-by false false false = by-operator (λ (a : Act). calls.placed b (e .port) (calls.done p (e .at) a) .bench)
 
   answer-by : (k₁ k₂ k₃ : Bool) → answerOf b (call b e k₁ k₂ k₃) ≡ calls.done p (e .at) (act k₁ k₂ k₃) .reply .answer
-  unfolding answerOf calls.placed
+  unfolding resultOf calls.placed
   answer-by true k₂ k₃ = refl
   answer-by false true k₃ = by-response (λ (a : Act). calls.done p (e .at) a .reply .answer)
   answer-by false false true = by-clock (λ (a : Act). calls.done p (e .at) a .reply .answer)
@@ -75,9 +77,9 @@ module _ (b : Bench) (e : Entry) where
 
 -- `k₁`, `k₂`, `k₃`: the record has a block, a response, a clock reading
 out-of-range : (k₁ k₂ k₃ : Bool) (s : Setting) (e : Entry) → outside 1 8 (e .port) ≡ true
-    → cond k₁ (calls.parametersAct (e .port) (e .octets)) (cond k₂ (calls.responseAct byBits (outside 1 8 (e .port)) s (e .at) (e .octets) true) (cond k₃ (calls.clockAct (outside 1 8 (e .port)) s (e .at) true) (calls.operatorAct (outside 1 8 (e .port)) s (e .at) (setSDIn (e .octets)) (ackIn (e .octets)) true)))
+    → cond k₁ (calls.parametersAct parameterSignature (e .port) (e .octets)) (cond k₂ (calls.responseAct byBits (outside 1 8 (e .port)) s (e .at) (e .octets) true) (cond k₃ (calls.clockAct (outside 1 8 (e .port)) s (e .at) true) (calls.operatorAct (outside 1 8 (e .port)) s (e .at) (setSDIn (e .octets)) (ackIn (e .octets)) true)))
     ≡ Refused answers.NoPort
-out-of-range true k₂ k₃ s e h = nowhere-block (e .port) (e .octets) h
+out-of-range true k₂ k₃ s e h = nowhere-block parameterSignature (e .port) (e .octets) h
 out-of-range false true k₃ s e h = nowhere-response byBits (outside 1 8 (e .port)) h s (e .at) (e .octets) true
 out-of-range false false true s e h = nowhere-clock (outside 1 8 (e .port)) h s (e .at) true
 out-of-range false false false s e h = nowhere-operator (outside 1 8 (e .port)) h s (e .at) (setSDIn (e .octets)) (ackIn (e .octets)) true
@@ -86,7 +88,7 @@ out-of-range false false false s e h = nowhere-operator (outside 1 8 (e .port)) 
 
 module _ (b : Bench) (e : Entry) where
   abbrev actAt : Setting → Act
-  actAt s = actBy byBits (outside 1 8 (e .port)) s e
+  actAt s = actBy annexD (outside 1 8 (e .port)) s e
 
   nowhere : outside 1 8 (e .port) ≡ true → (s : Setting) → actAt s ≡ Refused answers.NoPort
   nowhere h s = out-of-range (eqb (e .kind) 1) (eqb (e .kind) 2) (eqb (e .kind) 3) s e h

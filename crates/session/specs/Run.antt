@@ -13,9 +13,10 @@ use Rattle.spdu.specs.Places.{processOctets}
 use Rattle.bench.specs.declared.Setting.{Setting}
 use Rattle.bench.specs.declared.Bench.{Bench}
 use Rattle.bench.specs.declared.Act.{Act}
+use Rattle.bench.specs.Methods.{Method, annexD}
 use Rattle.bench.specs.Ports.{newBench, portAt}
 use Rattle.bench.specs.Calls.{parametersAct, responseAct, clockAct, operatorAct}
-use Rattle.bench.specs.History.{Call, SetParameters, ReceiveResponse, Clock, Operator, answerOf, after, history}
+use Rattle.bench.specs.History.{Call, SetParameters, ReceiveResponse, Clock, Operator, resultOf, history}
 use Rattle.session.specs.declared.State.{State}
 use Rattle.session.specs.declared.Fed.{Fed}
 use Rattle.session.specs.declared.Stop.{Stop}
@@ -88,10 +89,10 @@ callOf b e = callBy (portAt b (e .port) .setting .params) e
 
 -- what that call asks of the port (proofs/Turn.antt), by a method of signing: o says that no port has the number, s is the port's setting. Zeros
 -- of the right length hold as safe values.
-abbrev pub actBy : (ℕ → List ℕ → ℕ) → Bool → Setting → Entry → Act
-actBy sign o s e =
-    cond (eqb (e .kind) 1) (parametersAct (e .port) (e .octets))
-    (cond (eqb (e .kind) 2) (responseAct sign o s (e .at) (e .octets) true)
+abbrev pub actBy : Method → Bool → Setting → Entry → Act
+actBy m o s e =
+    cond (eqb (e .kind) 1) (parametersAct (m .block) (e .port) (e .octets))
+    (cond (eqb (e .kind) 2) (responseAct (m .spdu) o s (e .at) (e .octets) true)
     (cond (eqb (e .kind) 3) (clockAct o s (e .at) true)
     (operatorAct o s (e .at) (setSDIn (e .octets)) (ackIn (e .octets)) true)))
 
@@ -123,23 +124,36 @@ refusedAfter refused a = cond (isTaken a) refused (more refused)
 abbrev pub answered : State → Bench → Answer → State
 answered st b a = stateOf b (more (st .records)) (refusedAfter (st .refused) a)
 
-unfoldable pub applied : State → Entry → State
-applied st e = answered st (after (st .bench) (callOf (st .bench) e)) (answerOf (st .bench) (callOf (st .bench) e))
+-- by a method of signing, as all that follows: a name without `By` is by 000 Annex D's
+unfoldable pub appliedBy : Method → State → Entry → State
+appliedBy m st e = let r = resultOf m (st .bench) (callOf (st .bench) e) in answered st (r .bench) (r .reply .answer)
+
+abbrev pub applied : State → Entry → State
+applied st e = appliedBy annexD st e
 
 -- "It prints `r N code C` for a refusal at record N, counted from 1, as met."
 abbrev pub lineFor : ℕ → Answer → List ℕ
 lineFor n a = cond (isTaken a) [] (refusalLine n (numberOf a))
 
-unfoldable pub recordLine : State → Entry → List ℕ
-recordLine st e = lineFor (more (st .records)) (answerOf (st .bench) (callOf (st .bench) e))
+unfoldable pub recordLineBy : Method → State → Entry → List ℕ
+recordLineBy m st e = lineFor (more (st .records)) (resultOf m (st .bench) (callOf (st .bench) e) .reply .answer)
+
+abbrev pub recordLine : State → Entry → List ℕ
+recordLine st e = recordLineBy annexD st e
+
+abbrev pub ranBy : Method → State → List Entry → State
+ranBy m st [] = st
+ranBy m st (e ∷ rs) = ranBy m (appliedBy m st e) rs
 
 abbrev pub ran : State → List Entry → State
-ran st [] = st
-ran st (e ∷ rs) = ran (applied st e) rs
+ran st rs = ranBy annexD st rs
+
+abbrev pub linesBy : Method → State → List Entry → List ℕ
+linesBy m st [] = []
+linesBy m st (e ∷ rs) = recordLineBy m st e ++ linesBy m (appliedBy m st e) rs
 
 abbrev pub linesOf : State → List Entry → List ℕ
-linesOf st [] = []
-linesOf st (e ∷ rs) = recordLine st e ++ linesOf (applied st e) rs
+linesOf st rs = linesBy annexD st rs
 
 -- "A 13 ends reading": its line, where some octets are left
 abbrev pub thirteenLine : Bool → ℕ → List ℕ
@@ -153,10 +167,13 @@ closing st some =
     ++ portLines (st .bench) 8
 
 -- All that a session prints. A record has 9 octets at least, so that there are fewer records than octets.
-unfoldable pub printed : List ℕ → List ℕ
-printed s =
+unfoldable pub printedBy : Method → List ℕ → List ℕ
+printedBy m s =
     let rs = recordsOf (length s) s in
-    linesOf start rs ++ closing (ran start rs) (not (eqb (length (restOf (length s) s)) 0))
+    linesBy m start rs ++ closing (ranBy m start rs) (not (eqb (length (restOf (length s) s)) 0))
+
+abbrev pub printed : List ℕ → List ℕ
+printed s = printedBy annexD s
 
 -- ---- In chunks
 

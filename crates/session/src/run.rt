@@ -24,6 +24,7 @@ use bench::Setting;
 use lines::LINE_ROOM;
 use record::Record;
 use record::read_record;
+use signature::Engine;
 
 // Room for what is printed at the end.
 const CLOSING_ROOM: usize = 1152;
@@ -117,6 +118,7 @@ fn raise(bins: &mut [[u32; BIN_COUNT]; PORT_COUNT], k: usize, counts: bool, i: u
 
 // `feed`, of a bench in columns.
 fn use_records(
+    engine: Engine,
     settings: [Setting; PORT_COUNT],
     lives: [Live; PORT_COUNT],
     bins: [[u32; BIN_COUNT]; PORT_COUNT],
@@ -130,8 +132,8 @@ fn use_records(
     ensures { λ r. ⌜ r .used ≤ length (now (s .entry)) ⌝ }
     ensures { λ r. ⌜ Counts (r .written) (now (out .exit)) ⌝ }
 {
-    let short = signature::table16();
-    let long = signature::table32();
+    let short = signature::table16_for(engine);
+    let long = signature::table32_for(engine);
     let none = [0u32; BIN_COUNT];
     let mut settings = settings;
     let mut lives = lives;
@@ -159,6 +161,7 @@ fn use_records(
         let k = place.index;
         let setting = settings[k];
         let act = act_of(
+            engine,
             &short,
             &long,
             place.outside,
@@ -213,7 +216,7 @@ fn use_records(
 
 // Reads the whole records of s, and writes the lines of those that are refused at the front of out. It takes at most as many records as out
 // has room for lines, of 64 octets each.
-pub fn feed(st: State, s: &[u8], out: &mut [u8]) -> Fed
+pub fn feed(engine: Engine, st: State, s: &[u8], out: &mut [u8]) -> Fed
     ensures { λ r. ⌜ r ≡ runs.fedOf st (now (s .entry)) (length (now (out .entry))) ⌝ }
     ensures { λ _. ⌜ now (out .exit) ≡ runs.fedText st (now (s .entry)) (now (out .entry)) ⌝ }
     ensures { λ r. ⌜ r .used ≤ length (now (s .entry)) ⌝ }
@@ -221,6 +224,7 @@ pub fn feed(st: State, s: &[u8], out: &mut [u8]) -> Fed
 {
     let bench = bench_of(st);
     use_records(
+        engine,
         bench::settings_of(bench),
         bench::lives_of(bench),
         bench::all_bins_of(bench),

@@ -4,12 +4,11 @@ use mathlib.Core.Bool.{Bool}
 use mathlib.Core.List.{List, [], _∷_, _++_}
 use Prim.Native.Nat.{ℕ, zero, suc, _+_, _-_, _*_, _/_, _%_, _^_, _<_, _≤_}
 use native.Mathlib.Nat.{mod-lt, zero-add, add-comm, mul-zero, mul-suc}
-use native.Mathlib.Numerals.{add-one}
 use native.Mathlib.Omega.{arith}
 use lib.Bits.{bitXor, xor-lt}
-use lib.ListN.{length, getD, take, drop, drop-of-length-le}
+use lib.ListN.{length, getD, take, drop}
 use lib.Pow.{pow-pos}
-use lib.Seq.{drop-cons, take-at, drop-at}
+use lib.Seq.{take-at, drop-at}
 use Rattle.gf2.specs.Polynomial.{_⊕_, zeros}
 use Rattle.gf2.specs.Register.{register}
 use Rattle.gf2.specs.Bits.{bits}
@@ -100,20 +99,3 @@ module _ (w g n k : ℕ) (wide : w ≡ n + k) (hg : g < 2 ^ w) (hn : 0 < n) wher
     unfolding byTable signature
     look-all r [] = refl
     look-all r (x ∷ xs) = ap (λ (s : ℕ). byTable w n table s xs) (look-octet r x) ∙ look-all (octet w g r x) xs
-
--- A loop over the octets of s, at the register r before the octet i: what is left from r leads where all leads from the seed.
-pub record Left (w n : ℕ) (table : List ℕ) (seed : ℕ) (s : List ℕ) (r i : ℕ) : Type 0 where
-  pub within : i ≤ length s
-  pub rest : byTable w n table r (drop i s) ≡ byTable w n table seed s
-
-module _ {w n : ℕ} {table : List ℕ} {seed : ℕ} {s : List ℕ} where
-  pub start : Left w n table seed s seed 0
-  start = record { within = omega arith; rest = refl }
-
-  pub again : {r i r′ : ℕ} → Left w n table seed s r i → i < length s → r′ ≡ octetByTable w n table r (getD s i 0) → Left w n table seed s r′ (i + 1)
-  unfolding byTable
-  again {r} {i} inv h e = record { within = omega arith; rest = rw (e, add-one) (rw (drop-cons s i 0) at (inv .rest)) }
-
-  pub done : {r i : ℕ} → Left w n table seed s r i → length s ≤ i → r ≡ byTable w n table seed s
-  unfolding byTable
-  done {r} {i} inv h = rw (drop-of-length-le s h) at (inv .rest)

@@ -1,6 +1,9 @@
 pub mod Bridge
 pub mod Table
 pub mod Law
+pub mod Loop
+pub mod Shift
+pub mod Engines
 pub mod Ahead
 pub mod Detect
 pub mod Arises

@@ -1,2 +1,3 @@
 pub mod Signature
 pub mod Lookup
+pub mod Engines

@@ -1,4 +1,4 @@
-pub mod Tables
+pub mod Engines
 pub mod Zeros
 pub mod Join
 pub mod Trailer

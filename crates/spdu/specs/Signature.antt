@@ -5,8 +5,9 @@ use mathlib.Core.Bool.{cond}
 use mathlib.Core.List.{List}
 use lib.Dec.{eqb}
 use Rattle.gf2.specs.Generators.{generator16, generator32}
+use Rattle.signature.specs.declared.Engine.{Engine}
 use Rattle.signature.specs.Signature.{signature}
-use Rattle.signature.specs.Lookup.{byTable}
+use Rattle.signature.specs.Engines.{signedBy}
 
 -- 000 Table A.3: FSP_ProtMode 1 has the short signature; any other value reads as 2
 abbrev pub widthOf : ℕ → ℕ
@@ -23,9 +24,10 @@ byBits mode contents = signature (widthOf mode) (generatorOf mode) 1 contents
 abbrev pub indexBitsOf : ℕ → ℕ
 indexBitsOf mode = cond (eqb mode 1) 8 4
 
--- the same by two tables that are lent
-abbrev pub byTables : List ℕ → List ℕ → ℕ → List ℕ → ℕ
-byTables short long mode contents = byTable (widthOf mode) (indexBitsOf mode) (cond (eqb mode 1) short long) 1 contents
+-- the same by an engine, where both tables are lent (02, item 3)
+abbrev pub byEngine : Engine → List ℕ → List ℕ → ℕ → List ℕ → ℕ
+byEngine e short long mode contents =
+    signedBy e (widthOf mode) (generatorOf mode) (indexBitsOf mode) (cond (eqb mode 1) short long) 1 contents
 
 -- "In case the result of the CRC signature calculation leads to a 0, a 1 shall be sent and evaluated at the receiver side correspondingly."
 abbrev pub replaced : ℕ → ℕ

@@ -5,14 +5,16 @@ ghost use mathlib.Core.List.{[], _∷_, _++_};
 ghost use Prim.Native.Nat.{_+_, _/_, _%_, _≤_};
 ghost use lib.ListN.{length, replicate};
 ghost use Rattle.ranges.specs.Fields.{safetyOctets};
-ghost use Rattle.spdu.specs.Signature.{byTables, replaced};
+ghost use Rattle.spdu.specs.Signature.{byEngine, replaced};
 ghost use Rattle.spdu.specs.Built as built;
 use crate::read::replace;
 use answer::Answer;
 use block::Params;
+use signature::Engine;
 
 // The signature of process octets, port number and control octet, a zero replaced.
 fn seal(
+    engine: Engine,
     short: &[u16; 256],
     long: &[u32; 16],
     mode: u8,
@@ -20,16 +22,16 @@ fn seal(
     port: u8,
     control: u8,
 ) -> u32
-    ensures { λ r. ⌜ r ≡ replaced (byTables (now (short .entry)) (now (long .entry)) mode (built.contentsWith (now (process .entry)) port control)) ⌝ }
+    ensures { λ r. ⌜ r ≡ replaced (byEngine engine (now (short .entry)) (now (long .entry)) mode (built.contentsWith (now (process .entry)) port control)) ⌝ }
 {
     if mode == 1 {
-        let register = signature::signature16_by(short, 1, process);
-        let register = signature::step16_by(short, register, port);
-        replace(signature::step16_by(short, register, control) as u32)
+        let register = signature::signature16_with(engine, short, 1, process);
+        let register = signature::step16_with(engine, short, register, port);
+        replace(signature::step16_with(engine, short, register, control) as u32)
     } else {
-        let register = signature::signature32_by(long, 1, process);
-        let register = signature::step32_by(long, register, port);
-        replace(signature::step32_by(long, register, control))
+        let register = signature::signature32_with(engine, long, 1, process);
+        let register = signature::step32_with(engine, long, register, port);
+        replace(signature::step32_with(engine, long, register, control))
     }
 }
 
@@ -61,6 +63,7 @@ fn join(front: &[u8], back: &[u8], out: &mut [u8])
 }
 
 fn write(
+    engine: Engine,
     short: &[u16; 256],
     long: &[u32; 16],
     mode: u8,
@@ -70,9 +73,9 @@ fn write(
     out: &mut [u8],
 )
     requires { ⌜ length (now out) ≡ length (now process) + safetyOctets mode ⌝ }
-    ensures { λ _. ⌜ now (out .exit) ≡ built.spduWith (byTables (now (short .entry)) (now (long .entry))) mode (now (process .entry)) port control ⌝ }
+    ensures { λ _. ⌜ now (out .exit) ≡ built.spduWith (byEngine engine (now (short .entry)) (now (long .entry))) mode (now (process .entry)) port control ⌝ }
 {
-    let x = seal(short, long, mode, process, port, control);
+    let x = seal(engine, short, long, mode, process, port, control);
     if mode == 1 {
         let trailer = short_trailer(port, control, x);
         join(process, &trailer, out);
@@ -114,6 +117,7 @@ fn status_octet(DCount_i: u8, SDset: bool, DCommErr: bool, DTimeout: bool) -> u8
 
 // As `write`, with n zeros for process octets.
 fn write_zeros(
+    engine: Engine,
     short: &[u16; 256],
     long: &[u32; 16],
     mode: u8,
@@ -123,10 +127,10 @@ fn write_zeros(
     out: &mut [u8],
 )
     requires { ⌜ (length (now out) ≡ n + safetyOctets mode) × (n ≤ 255) ⌝ }
-    ensures { λ _. ⌜ now (out .exit) ≡ built.spduWith (byTables (now (short .entry)) (now (long .entry))) mode (replicate n 0) port control ⌝ }
+    ensures { λ _. ⌜ now (out .exit) ≡ built.spduWith (byEngine engine (now (short .entry)) (now (long .entry))) mode (replicate n 0) port control ⌝ }
 {
     let zeros = [0u8; 255];
-    write(short, long, mode, &zeros[..n], port, control, out);
+    write(engine, short, long, mode, &zeros[..n], port, control, out);
 }
 
 // All zeros.
@@ -141,6 +145,7 @@ fn clear(out: &mut [u8])
 
 // The FS-Master's SPDU, into exactly SPDUOutLength octets.
 pub fn build_request_by(
+    engine: Engine,
     short: &[u16; 256],
     long: &[u32; 16],
     p: Params,
@@ -151,7 +156,7 @@ pub fn build_request_by(
     out: &mut [u8],
 ) -> Answer
     ensures { λ r. ⌜ r ≡ built.builtAs (built.buffersHold (p .«FSP_ProtMode») (p .SPDUOutLength) (length (now (process .entry))) (length (now (out .entry)))) ⌝ }
-    ensures { λ _. ⌜ now (out .exit) ≡ built.requestBuilt (byTables (now (short .entry)) (now (long .entry))) p MCount setSD ChFAckReq (now (process .entry)) (now (out .entry)) ⌝ }
+    ensures { λ _. ⌜ now (out .exit) ≡ built.requestBuilt (byEngine engine (now (short .entry)) (now (long .entry))) p MCount setSD ChFAckReq (now (process .entry)) (now (out .entry)) ⌝ }
 {
     let mode = p.FSP_ProtMode;
     let port = p.FSP_Port;
@@ -159,9 +164,9 @@ pub fn build_request_by(
     if buffers_hold(mode, p.SPDUOutLength, n, out.len()) {
         let control = control_octet(MCount, setSD, ChFAckReq);
         if setSD {
-            write_zeros(short, long, mode, n, port, control, out);
+            write_zeros(engine, short, long, mode, n, port, control, out);
         } else {
-            write(short, long, mode, process, port, control, out);
+            write(engine, short, long, mode, process, port, control, out);
         }
         return Answer::Taken;
     }
@@ -170,6 +175,7 @@ pub fn build_request_by(
 
 // The FS-Device's SPDU, into exactly SPDUInLength octets; zeros until it has responded.
 pub fn build_response_by(
+    engine: Engine,
     short: &[u16; 256],
     long: &[u32; 16],
     p: Params,
@@ -182,14 +188,14 @@ pub fn build_response_by(
     out: &mut [u8],
 ) -> Answer
     ensures { λ r. ⌜ r ≡ built.builtAs (built.buffersHold (p .«FSP_ProtMode») (p .SPDUInLength) (length (now (process .entry))) (length (now (out .entry)))) ⌝ }
-    ensures { λ _. ⌜ now (out .exit) ≡ built.responseBuilt (byTables (now (short .entry)) (now (long .entry))) p responded «DCount_i» SDset DCommErr DTimeout (now (process .entry)) (now (out .entry)) ⌝ }
+    ensures { λ _. ⌜ now (out .exit) ≡ built.responseBuilt (byEngine engine (now (short .entry)) (now (long .entry))) p responded «DCount_i» SDset DCommErr DTimeout (now (process .entry)) (now (out .entry)) ⌝ }
 {
     let mode = p.FSP_ProtMode;
     let port = p.FSP_Port;
     if buffers_hold(mode, p.SPDUInLength, process.len(), out.len()) {
         if responded {
             let status = status_octet(DCount_i, SDset, DCommErr, DTimeout);
-            write(short, long, mode, process, port, status, out);
+            write(engine, short, long, mode, process, port, status, out);
         } else {
             clear(out);
         }

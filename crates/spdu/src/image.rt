@@ -2,7 +2,7 @@
 ghost use mathlib.Core.Path.{_≡_};
 ghost use Prim.Native.Nat.{_+_};
 ghost use lib.ListN.{length};
-ghost use Rattle.spdu.specs.Signature.{byTables};
+ghost use Rattle.spdu.specs.Signature.{byEngine};
 ghost use Rattle.spdu.specs.Built.{builtAs};
 ghost use Rattle.spdu.specs.Image as image;
 use crate::build::buffers_hold;
@@ -12,6 +12,7 @@ use crate::read::process_octets;
 use answer::Answer;
 use block::Params;
 use scl::Mark;
+use signature::Engine;
 
 fn composer_fits(mode: u8, o: u8, rest: u8, process: usize, other: usize, octets: usize) -> bool
     ensures { λ r. ⌜ r ≡ image.composerFits mode o rest process other octets ⌝ }
@@ -22,6 +23,7 @@ fn composer_fits(mode: u8, o: u8, rest: u8, process: usize, other: usize, octets
 
 // The outgoing image of the FS-Master: the SPDU is built in its place, and the other data stands behind it.
 pub fn compose_by(
+    engine: Engine,
     short: &[u16; 256],
     long: &[u32; 16],
     p: Params,
@@ -33,7 +35,7 @@ pub fn compose_by(
     octets: &mut [u8],
 ) -> Answer
     ensures { λ r. ⌜ r ≡ builtAs (image.composerHolds p (length (now (process .entry))) (length (now (other .entry))) (length (now (octets .entry)))) ⌝ }
-    ensures { λ _. ⌜ now (octets .exit) ≡ image.composed (byTables (now (short .entry)) (now (long .entry))) p MCount setSD ChFAckReq (now (process .entry)) (now (other .entry)) (now (octets .entry)) ⌝ }
+    ensures { λ _. ⌜ now (octets .exit) ≡ image.composed (byEngine engine (now (short .entry)) (now (long .entry))) p MCount setSD ChFAckReq (now (process .entry)) (now (other .entry)) (now (octets .entry)) ⌝ }
 {
     let o = p.SPDUOutLength as usize;
     if composer_fits(
@@ -45,6 +47,7 @@ pub fn compose_by(
         octets.len(),
     ) {
         build_request_by(
+            engine,
             short,
             long,
             p,

@@ -1,6 +1,7 @@
 // Safety PDUs (000 11.4): what is read of one, how one is built, its place in the process data image, and the values handed on.
 //
-// A function whose name ends in `_by` takes the two signature tables, lent, so that a loop names them once; it takes any tables.
+// All that signs takes the engine. A function whose name ends in `_by` takes the two signature tables besides, lent, so that a loop names them
+// once; it takes any tables.
 mod build;
 mod image;
 mod plain;

@@ -1,4 +1,4 @@
-// The same with tables of its own: what 000 says, with no table in the contract. Each call lays both tables on the stack.
+// The same with tables of its own: what 000 says, whichever the engine, with no table in the contract. Each call lays both tables on the stack.
 ghost use mathlib.Core.Path.{_≡_};
 ghost use lib.ListN.{length};
 ghost use Rattle.spdu.specs.Signature.{byBits};
@@ -9,24 +9,26 @@ use answer::Answer;
 use block::Params;
 use scl::Request;
 use scl::Response;
+use signature::Engine;
 
-pub fn read_response(p: Params, s: &[u8]) -> Response
+pub fn read_response(engine: Engine, p: Params, s: &[u8]) -> Response
     ensures { λ r. ⌜ r ≡ responseBy byBits p (now (s .entry)) ⌝ }
 {
-    let short = signature::table16();
-    let long = signature::table32();
-    crate::read::read_response_by(&short, &long, p, s)
+    let short = signature::table16_for(engine);
+    let long = signature::table32_for(engine);
+    crate::read::read_response_by(engine, &short, &long, p, s)
 }
 
-pub fn read_request(p: Params, s: &[u8]) -> Request
+pub fn read_request(engine: Engine, p: Params, s: &[u8]) -> Request
     ensures { λ r. ⌜ r ≡ requestBy byBits p (now (s .entry)) ⌝ }
 {
-    let short = signature::table16();
-    let long = signature::table32();
-    crate::read::read_request_by(&short, &long, p, s)
+    let short = signature::table16_for(engine);
+    let long = signature::table32_for(engine);
+    crate::read::read_request_by(engine, &short, &long, p, s)
 }
 
 pub fn build_response(
+    engine: Engine,
     p: Params,
     responded: bool,
     DCount_i: u8,
@@ -39,9 +41,10 @@ pub fn build_response(
     ensures { λ r. ⌜ r ≡ builtAs (buffersHold (p .«FSP_ProtMode») (p .SPDUInLength) (length (now (process .entry))) (length (now (out .entry)))) ⌝ }
     ensures { λ _. ⌜ now (out .exit) ≡ responseBuilt byBits p responded «DCount_i» SDset DCommErr DTimeout (now (process .entry)) (now (out .entry)) ⌝ }
 {
-    let short = signature::table16();
-    let long = signature::table32();
+    let short = signature::table16_for(engine);
+    let long = signature::table32_for(engine);
     crate::build::build_response_by(
+        engine,
         &short,
         &long,
         p,
@@ -56,6 +59,7 @@ pub fn build_response(
 }
 
 pub fn compose(
+    engine: Engine,
     p: Params,
     MCount: u8,
     setSD: bool,
@@ -67,9 +71,10 @@ pub fn compose(
     ensures { λ r. ⌜ r ≡ builtAs (composerHolds p (length (now (process .entry))) (length (now (other .entry))) (length (now (octets .entry)))) ⌝ }
     ensures { λ _. ⌜ now (octets .exit) ≡ composed byBits p MCount setSD ChFAckReq (now (process .entry)) (now (other .entry)) (now (octets .entry)) ⌝ }
 {
-    let short = signature::table16();
-    let long = signature::table32();
+    let short = signature::table16_for(engine);
+    let long = signature::table32_for(engine);
     crate::image::compose_by(
+        engine,
         &short,
         &long,
         p,

@@ -3,13 +3,14 @@ ghost use mathlib.Core.Path.{_≡_};
 ghost use mathlib.Core.List.{[]};
 ghost use Prim.Native.Nat.{_+_, _≤_};
 ghost use lib.ListN.{getD, take, length};
-ghost use Rattle.spdu.specs.Signature.{byTables, replaced};
+ghost use Rattle.spdu.specs.Signature.{byEngine, replaced};
 ghost use Rattle.spdu.specs.Places as places;
 ghost use Rattle.spdu.specs.Fields as fields;
 use block::Params;
 use block::word;
 use scl::Request;
 use scl::Response;
+use signature::Engine;
 
 // How many process octets an SPDU of n octets has.
 pub(crate) fn process_octets(mode: u8, n: usize) -> usize
@@ -32,13 +33,19 @@ fn first(s: &[u8], n: usize) -> &[u8]
 }
 
 // The signature that the contents compute, before a zero is replaced.
-pub(crate) fn sign(short: &[u16; 256], long: &[u32; 16], mode: u8, contents: &[u8]) -> u32
-    ensures { λ r. ⌜ r ≡ byTables (now (short .entry)) (now (long .entry)) mode (now (contents .entry)) ⌝ }
+pub(crate) fn sign(
+    engine: Engine,
+    short: &[u16; 256],
+    long: &[u32; 16],
+    mode: u8,
+    contents: &[u8],
+) -> u32
+    ensures { λ r. ⌜ r ≡ byEngine engine (now (short .entry)) (now (long .entry)) mode (now (contents .entry)) ⌝ }
 {
     if mode == 1 {
-        signature::signature16_by(short, 1, contents) as u32
+        signature::signature16_with(engine, short, 1, contents) as u32
     } else {
-        signature::signature32_by(long, 1, contents)
+        signature::signature32_with(engine, long, 1, contents)
     }
 }
 
@@ -74,31 +81,31 @@ pub(crate) fn all_zero(s: &[u8]) -> bool
     true
 }
 
-fn signature_holds(short: &[u16; 256], long: &[u32; 16], mode: u8, s: &[u8]) -> bool
+fn signature_holds(engine: Engine, short: &[u16; 256], long: &[u32; 16], mode: u8, s: &[u8]) -> bool
     requires { ⌜ length (now s) ≤ 255 ⌝ }
-    ensures { λ r. ⌜ r ≡ places.signatureHolds (byTables (now (short .entry)) (now (long .entry))) mode (now (s .entry)) ⌝ }
+    ensures { λ r. ⌜ r ≡ places.signatureHolds (byEngine engine (now (short .entry)) (now (long .entry))) mode (now (s .entry)) ⌝ }
 {
     let end = process_octets(mode, s.len()) + 2;
-    let right = replace(sign(short, long, mode, first(s, end)));
+    let right = replace(sign(engine, short, long, mode, first(s, end)));
     carried(mode, s, end) == right
 }
 
 // Of an SPDU that has all safety octets: no place is past its end, so none is tested.
-fn short_holds(short: &[u16; 256], s: &[u8]) -> bool
+fn short_holds(engine: Engine, short: &[u16; 256], s: &[u8]) -> bool
     requires { ⌜ 4 ≤ length (now s) ⌝ }
-    ensures { λ r. ⌜ r ≡ places.signatureHolds (byTables (now (short .entry)) []) 1 (now (s .entry)) ⌝ }
+    ensures { λ r. ⌜ r ≡ places.signatureHolds (byEngine engine (now (short .entry)) []) 1 (now (s .entry)) ⌝ }
 {
     let end = s.len() - 2;
-    let right = replace(signature::signature16_by(short, 1, &s[..end]) as u32);
+    let right = replace(signature::signature16_with(engine, short, 1, &s[..end]) as u32);
     word(s[end], s[end + 1]) as u32 == right
 }
 
-fn long_holds(long: &[u32; 16], s: &[u8]) -> bool
+fn long_holds(engine: Engine, long: &[u32; 16], s: &[u8]) -> bool
     requires { ⌜ 6 ≤ length (now s) ⌝ }
-    ensures { λ r. ⌜ r ≡ places.signatureHolds (byTables [] (now (long .entry))) 2 (now (s .entry)) ⌝ }
+    ensures { λ r. ⌜ r ≡ places.signatureHolds (byEngine engine [] (now (long .entry))) 2 (now (s .entry)) ⌝ }
 {
     let end = s.len() - 4;
-    let right = replace(signature::signature32_by(long, 1, &s[..end]));
+    let right = replace(signature::signature32_with(engine, long, 1, &s[..end]));
     let high = word(s[end], s[end + 1]);
     let low = word(s[end + 2], s[end + 3]);
     high as u32 * 65536 + low as u32 == right
@@ -112,49 +119,61 @@ struct Trailer {
 }
 
 // Each place is tested, as an SPDU that lacks safety octets asks. None such is configured.
-fn cut_trailer_by(short: &[u16; 256], long: &[u32; 16], mode: u8, s: &[u8]) -> Trailer
+fn cut_trailer_by(
+    engine: Engine,
+    short: &[u16; 256],
+    long: &[u32; 16],
+    mode: u8,
+    s: &[u8],
+) -> Trailer
     requires { ⌜ length (now s) ≤ 255 ⌝ }
-    ensures { λ r. ⌜ r ≡ fields.trailerOf (byTables (now (short .entry)) (now (long .entry))) mode (now (s .entry)) ⌝ }
+    ensures { λ r. ⌜ r ≡ fields.trailerOf (byEngine engine (now (short .entry)) (now (long .entry))) mode (now (s .entry)) ⌝ }
 {
     let at = process_octets(mode, s.len());
     Trailer {
         port: octet(s, at),
         control: octet(s, at + 1),
-        signature_holds: signature_holds(short, long, mode, s),
+        signature_holds: signature_holds(engine, short, long, mode, s),
     }
 }
 
 // The places are worked out once, from the end.
-fn trailer_by(short: &[u16; 256], long: &[u32; 16], mode: u8, s: &[u8]) -> Trailer
-    ensures { λ r. ⌜ r ≡ fields.trailerOf (byTables (now (short .entry)) (now (long .entry))) mode (now (s .entry)) ⌝ }
+fn trailer_by(engine: Engine, short: &[u16; 256], long: &[u32; 16], mode: u8, s: &[u8]) -> Trailer
+    ensures { λ r. ⌜ r ≡ fields.trailerOf (byEngine engine (now (short .entry)) (now (long .entry))) mode (now (s .entry)) ⌝ }
 {
     let n = s.len();
     if mode == 1 {
         if n < 4 {
-            return cut_trailer_by(short, long, mode, s);
+            return cut_trailer_by(engine, short, long, mode, s);
         }
         Trailer {
             port: s[n - 4],
             control: s[n - 3],
-            signature_holds: short_holds(short, s),
+            signature_holds: short_holds(engine, short, s),
         }
     } else {
         if n < 6 {
-            return cut_trailer_by(short, long, mode, s);
+            return cut_trailer_by(engine, short, long, mode, s);
         }
         Trailer {
             port: s[n - 6],
             control: s[n - 5],
-            signature_holds: long_holds(long, s),
+            signature_holds: long_holds(engine, long, s),
         }
     }
 }
 
 // The fields of an SPDU, whatever its length.
-pub fn response_fields_by(short: &[u16; 256], long: &[u32; 16], p: Params, s: &[u8]) -> Response
-    ensures { λ r. ⌜ r ≡ fields.responseFields (byTables (now (short .entry)) (now (long .entry))) p (now (s .entry)) ⌝ }
+pub fn response_fields_by(
+    engine: Engine,
+    short: &[u16; 256],
+    long: &[u32; 16],
+    p: Params,
+    s: &[u8],
+) -> Response
+    ensures { λ r. ⌜ r ≡ fields.responseFields (byEngine engine (now (short .entry)) (now (long .entry))) p (now (s .entry)) ⌝ }
 {
-    let t = trailer_by(short, long, p.FSP_ProtMode, s);
+    let t = trailer_by(engine, short, long, p.FSP_ProtMode, s);
     let status = t.control;
     Response {
         length: s.len(),
@@ -169,11 +188,17 @@ pub fn response_fields_by(short: &[u16; 256], long: &[u32; 16], p: Params, s: &[
     }
 }
 
-pub fn read_response_by(short: &[u16; 256], long: &[u32; 16], p: Params, s: &[u8]) -> Response
-    ensures { λ r. ⌜ r ≡ fields.responseBy (byTables (now (short .entry)) (now (long .entry))) p (now (s .entry)) ⌝ }
+pub fn read_response_by(
+    engine: Engine,
+    short: &[u16; 256],
+    long: &[u32; 16],
+    p: Params,
+    s: &[u8],
+) -> Response
+    ensures { λ r. ⌜ r ≡ fields.responseBy (byEngine engine (now (short .entry)) (now (long .entry))) p (now (s .entry)) ⌝ }
 {
     if s.len() == p.SPDUInLength as usize {
-        response_fields_by(short, long, p, s)
+        response_fields_by(engine, short, long, p, s)
     } else {
         Response {
             length: s.len(),
@@ -190,10 +215,16 @@ pub fn read_response_by(short: &[u16; 256], long: &[u32; 16], p: Params, s: &[u8
 }
 
 // The fields of an SPDU, whatever its length.
-pub fn request_fields_by(short: &[u16; 256], long: &[u32; 16], p: Params, s: &[u8]) -> Request
-    ensures { λ r. ⌜ r ≡ fields.requestFields (byTables (now (short .entry)) (now (long .entry))) p (now (s .entry)) ⌝ }
+pub fn request_fields_by(
+    engine: Engine,
+    short: &[u16; 256],
+    long: &[u32; 16],
+    p: Params,
+    s: &[u8],
+) -> Request
+    ensures { λ r. ⌜ r ≡ fields.requestFields (byEngine engine (now (short .entry)) (now (long .entry))) p (now (s .entry)) ⌝ }
 {
-    let t = trailer_by(short, long, p.FSP_ProtMode, s);
+    let t = trailer_by(engine, short, long, p.FSP_ProtMode, s);
     let control = t.control;
     Request {
         length: s.len(),
@@ -207,11 +238,17 @@ pub fn request_fields_by(short: &[u16; 256], long: &[u32; 16], p: Params, s: &[u
     }
 }
 
-pub fn read_request_by(short: &[u16; 256], long: &[u32; 16], p: Params, s: &[u8]) -> Request
-    ensures { λ r. ⌜ r ≡ fields.requestBy (byTables (now (short .entry)) (now (long .entry))) p (now (s .entry)) ⌝ }
+pub fn read_request_by(
+    engine: Engine,
+    short: &[u16; 256],
+    long: &[u32; 16],
+    p: Params,
+    s: &[u8],
+) -> Request
+    ensures { λ r. ⌜ r ≡ fields.requestBy (byEngine engine (now (short .entry)) (now (long .entry))) p (now (s .entry)) ⌝ }
 {
     if s.len() == p.SPDUOutLength as usize {
-        request_fields_by(short, long, p, s)
+        request_fields_by(engine, short, long, p, s)
     } else {
         Request {
             length: s.len(),

@@ -2,6 +2,7 @@
 use crate::print::answered;
 use crate::print::decimal;
 use crate::print::text;
+use signature::Engine;
 
 // SAFETYCOM at port 1 with the short signature: no other data, and one octet of bits each way. Signatures are left 0.
 const SAFETYCOM: [u8; 48] = [
@@ -196,20 +197,21 @@ fn with(block: [u8; 48], at: usize, octet: u8) -> [u8; 48] {
 }
 
 // With the right signatures. FSP_ProtParCRC covers FSP_IO_StructCRC and so comes last.
-fn signed(block: [u8; 48]) -> [u8; 48] {
-    let authent = signature::signature16(0, &block[14..23]);
-    let io_struct = signature::signature16(0, &block[37..48]);
+fn signed(engine: Engine, block: [u8; 48]) -> [u8; 48] {
+    let table = signature::table16_for(engine);
+    let authent = signature::signature16_with(engine, &table, 0, &block[14..23]);
+    let io_struct = signature::signature16_with(engine, &table, 0, &block[37..48]);
     let block = with(block, 23, (authent / 256) as u8);
     let block = with(block, 24, (authent % 256) as u8);
     let block = with(block, 29, (io_struct / 256) as u8);
     let block = with(block, 30, (io_struct % 256) as u8);
-    let prot_par = signature::signature16(0, &block[25..35]);
+    let prot_par = signature::signature16_with(engine, &table, 0, &block[25..35]);
     let block = with(block, 35, (prot_par / 256) as u8);
     with(block, 36, (prot_par % 256) as u8)
 }
 
-fn judged(name: &[u8], octets: &[u8], port: u8, number: u8, offset: u8) {
-    let judged = block::judge(octets, port);
+fn judged(engine: Engine, name: &[u8], octets: &[u8], port: u8, number: u8, offset: u8) {
+    let judged = block::judge(engine, octets, port);
     let answer = judged.answer;
     answered(
         name,
@@ -227,96 +229,96 @@ fn octet_line(at: usize, octet: u8) {
     decimal(octet as u64);
 }
 
-fn block_with(at: usize, octet: u8, signed_before: bool) -> [u8; 48] {
+fn block_with(engine: Engine, at: usize, octet: u8, signed_before: bool) -> [u8; 48] {
     if signed_before {
-        with(signed(SAFETYCOM), at, octet)
+        with(signed(engine, SAFETYCOM), at, octet)
     } else {
-        signed(with(SAFETYCOM, at, octet))
+        signed(engine, with(SAFETYCOM, at, octet))
     }
 }
 
-fn changed(name: &[u8], row: u64, signed_before: bool) {
+fn changed(engine: Engine, name: &[u8], row: u64, signed_before: bool) {
     let at = (row / 10000000) as usize;
     let octet = (row / 10000 % 1000 % 256) as u8;
     let number = (row / 100 % 100) as u8;
     let offset = (row % 100) as u8;
-    let block = block_with(at, octet, signed_before);
+    let block = block_with(engine, at, octet, signed_before);
     octet_line(at, octet);
-    judged(name, &block, 1, number, offset);
+    judged(engine, name, &block, 1, number, offset);
 }
 
-fn all_changed(name: &[u8], rows: &[u64], signed_before: bool) {
+fn all_changed(engine: Engine, name: &[u8], rows: &[u64], signed_before: bool) {
     let mut i = 0;
     while i < rows.len() {
-        changed(name, rows[i], signed_before);
+        changed(engine, name, rows[i], signed_before);
         i += 1;
     }
 }
 
-fn length(name: &[u8], row: u64, block: [u8; 48]) {
+fn length(engine: Engine, name: &[u8], row: u64, block: [u8; 48]) {
     let at = (row / 100000000 % 100) as usize;
     let length = (row / 1000000 % 100) as u8;
     let octets = (row / 10000 % 100) as u8;
     let number = (row / 100 % 100) as u8;
     let offset = (row % 100) as u8;
     let block = with(with(block, at, length), at + 1, 0);
-    let block = signed(with(block, at + 2, octets));
+    let block = signed(engine, with(block, at + 2, octets));
     octet_line(at, length);
     text(b" with process octets ");
     decimal(octets as u64);
-    judged(name, &block, 1, number, offset);
+    judged(engine, name, &block, 1, number, offset);
 }
 
-fn all_lengths(name: &[u8], rows: &[u64], block: [u8; 48]) {
+fn all_lengths(engine: Engine, name: &[u8], rows: &[u64], block: [u8; 48]) {
     let mut i = 0;
     while i < rows.len() {
-        length(name, rows[i], block);
+        length(engine, name, rows[i], block);
         i += 1;
     }
 }
 
-fn good(name: &[u8], block: [u8; 48]) {
-    let block = signed(block);
-    judged(name, &block, 1, 0, 0);
+fn good(engine: Engine, name: &[u8], block: [u8; 48]) {
+    let block = signed(engine, block);
+    judged(engine, name, &block, 1, 0, 0);
 }
 
-fn modes(short: [u8; 48], long: [u8; 48]) {
-    good(b"SAFETYCOM, 16 bits", short);
-    good(b"SAFETYCOM, 32 bits", long);
-    good(b"MIXEDSAFETYCOM, 16 bits", with(short, 2, 50));
-    good(b"MIXEDSAFETYCOM, 32 bits", with(long, 2, 50));
+fn modes(engine: Engine, short: [u8; 48], long: [u8; 48]) {
+    good(engine, b"SAFETYCOM, 16 bits", short);
+    good(engine, b"SAFETYCOM, 32 bits", long);
+    good(engine, b"MIXEDSAFETYCOM, 16 bits", with(short, 2, 50));
+    good(engine, b"MIXEDSAFETYCOM, 32 bits", with(long, 2, 50));
 }
 
 // 01, "Numbers to try" and "The session program".
-fn known() {
-    good(b"n 27, m 5", with(SAFETYCOM, 12, 27));
-    let block = signed(with(SAFETYCOM, 12, 28));
-    judged(b"n 28, m 5", &block, 1, 5, 38);
-    judged(b"48 zero octets", &[0u8; 48], 1, 2, 0);
+fn known(engine: Engine) {
+    good(engine, b"n 27, m 5", with(SAFETYCOM, 12, 27));
+    let block = signed(engine, with(SAFETYCOM, 12, 28));
+    judged(engine, b"n 28, m 5", &block, 1, 5, 38);
+    judged(engine, b"48 zero octets", &[0u8; 48], 1, 2, 0);
 }
 
-fn sizes_and_ports() {
-    judged(b"no octets", b"", 1, 1, 0);
-    judged(b"47 zero octets", &[0u8; 47], 1, 1, 0);
-    judged(b"49 zero octets", &[0u8; 49], 1, 1, 0);
-    let block = signed(SAFETYCOM);
-    judged(b"port 0", &block, 0, 8, 0);
-    judged(b"port 9", &block, 9, 8, 0);
-    judged(b"port 2, FSP_Port 1", &block, 2, 12, 0);
+fn sizes_and_ports(engine: Engine) {
+    judged(engine, b"no octets", b"", 1, 1, 0);
+    judged(engine, b"47 zero octets", &[0u8; 47], 1, 1, 0);
+    judged(engine, b"49 zero octets", &[0u8; 49], 1, 1, 0);
+    let block = signed(engine, SAFETYCOM);
+    judged(engine, b"port 0", &block, 0, 8, 0);
+    judged(engine, b"port 9", &block, 9, 8, 0);
+    judged(engine, b"port 2, FSP_Port 1", &block, 2, 12, 0);
 }
 
-pub(crate) fn run() {
+pub(crate) fn run(engine: Engine) {
     // The long signature has two octets more.
     let long = with(with(with(SAFETYCOM, 26, 2), 38, 7), 43, 7);
-    modes(SAFETYCOM, long);
-    known();
-    sizes_and_ports();
+    modes(engine, SAFETYCOM, long);
+    known(engine);
+    sizes_and_ports(engine);
     let rows = UNDER_RIGHT_SIGNATURES;
-    all_changed(b"", &rows, false);
+    all_changed(engine, b"", &rows, false);
     let rows = UNDER_EARLIER_SIGNATURES;
-    all_changed(b" under earlier signatures", &rows, true);
+    all_changed(engine, b" under earlier signatures", &rows, true);
     let rows = LENGTHS_16;
-    all_lengths(b", 16 bits", &rows, SAFETYCOM);
+    all_lengths(engine, b", 16 bits", &rows, SAFETYCOM);
     let rows = LENGTHS_32;
-    all_lengths(b", 32 bits", &rows, long);
+    all_lengths(engine, b", 32 bits", &rows, long);
 }

@@ -3,6 +3,7 @@ use crate::print::compared;
 use crate::print::octets;
 use answer::Answer;
 use block::Params;
+use signature::Engine;
 
 // MCount 5, ChFAckReq 1.
 const REQUEST_16: [u8; 7] = [0x12, 0x34, 0x56, 0x03, 0xA1, 0xD4, 0x9E];
@@ -38,17 +39,26 @@ fn params(mode: u8, length: u8) -> Params {
     p
 }
 
-fn request(p: Params, setSD: bool, ChFAckReq: bool, out: &mut [u8]) {
-    let short = signature::table16();
-    let long = signature::table32();
+fn request(engine: Engine, p: Params, setSD: bool, ChFAckReq: bool, out: &mut [u8]) {
+    let short = signature::table16_for(engine);
+    let long = signature::table32_for(engine);
     let process = [0x12u8, 0x34, 0x56];
-    spdu::build_request_by(&short, &long, p, 5, setSD, ChFAckReq, &process, out);
+    spdu::build_request_by(engine, &short, &long, p, 5, setSD, ChFAckReq, &process, out);
 }
 
-fn response(p: Params, DCount_i: u8, SDset: bool, DTimeout: bool, process: &[u8], out: &mut [u8]) {
-    let short = signature::table16();
-    let long = signature::table32();
+fn response(
+    engine: Engine,
+    p: Params,
+    DCount_i: u8,
+    SDset: bool,
+    DTimeout: bool,
+    process: &[u8],
+    out: &mut [u8],
+) {
+    let short = signature::table16_for(engine);
+    let long = signature::table32_for(engine);
     spdu::build_response_by(
+        engine,
         &short,
         &long,
         p,
@@ -62,39 +72,39 @@ fn response(p: Params, DCount_i: u8, SDset: bool, DTimeout: bool, process: &[u8]
     );
 }
 
-fn requests() {
+fn requests(engine: Engine) {
     let mut out = [0u8; 7];
-    request(params(1, 7), false, true, &mut out);
+    request(engine, params(1, 7), false, true, &mut out);
     let paper = REQUEST_16;
     octets(b"request, 16 bits", &out, &paper);
-    request(params(1, 7), true, false, &mut out);
+    request(engine, params(1, 7), true, false, &mut out);
     let paper = SAFE_REQUEST;
     octets(b"request with setSD, 16 bits", &out, &paper);
     let mut out = [0u8; 9];
-    request(params(2, 9), false, true, &mut out);
+    request(engine, params(2, 9), false, true, &mut out);
     let paper = REQUEST_32;
     octets(b"request, 32 bits", &out, &paper);
 }
 
-fn responses() {
+fn responses(engine: Engine) {
     let process = [0x12u8, 0x34, 0x56];
     let mut out = [0u8; 7];
-    response(params(1, 7), 2, true, true, &process, &mut out);
+    response(engine, params(1, 7), 2, true, true, &process, &mut out);
     let paper = RESPONSE_16;
     octets(b"response, 16 bits", &out, &paper);
     let mut out = [0u8; 9];
-    response(params(2, 9), 2, true, true, &process, &mut out);
+    response(engine, params(2, 9), 2, true, true, &process, &mut out);
     let paper = RESPONSE_32;
     octets(b"response, 32 bits", &out, &paper);
 }
 
-fn zero_replaced() {
+fn zero_replaced(engine: Engine) {
     let process = [0x00u8, 0x03, 0x3A];
     let mut out = [0u8; 7];
-    response(params(1, 7), 4, false, true, &process, &mut out);
+    response(engine, params(1, 7), 4, false, true, &process, &mut out);
     let paper = GENERATOR;
     octets(b"response that computes 4EAB", &out, &paper);
-    response(params(1, 7), 4, false, false, &process, &mut out);
+    response(engine, params(1, 7), 4, false, false, &process, &mut out);
     let paper = REPLACED;
     octets(b"response that computes 0", &out, &paper);
 }
@@ -110,12 +120,12 @@ fn answered(name: &[u8], answer: Answer, paper: u64) {
     compared(name, answer::number(answer) as u64, paper);
 }
 
-fn composed() {
+fn composed(engine: Engine) {
     let p = with_other_data(params(1, 7));
     let process = [0x12u8, 0x34, 0x56];
     let other = OTHER;
     let mut image = [0u8; 9];
-    let answer = spdu::compose(p, 5, false, true, &process, &other, &mut image);
+    let answer = spdu::compose(engine, p, 5, false, true, &process, &other, &mut image);
     answered(b"composed, answer", answer, 0);
     let paper = REQUEST_IMAGE;
     octets(b"composed", &image, &paper);
@@ -136,9 +146,9 @@ fn split() {
     );
 }
 
-fn response_read() {
+fn response_read(engine: Engine) {
     let spdu = RESPONSE_16;
-    let r = spdu::read_response(params(1, 7), &spdu);
+    let r = spdu::read_response(engine, params(1, 7), &spdu);
     compared(b"response read, DCount_i", r.DCount_i as u64, 2);
     compared(b"response read, SDset", r.SDset as u64, 1);
     compared(b"response read, DCommErr", r.DCommErr as u64, 0);
@@ -152,9 +162,9 @@ fn response_read() {
     compared(b"response read, all zero", r.all_zero as u64, 0);
 }
 
-fn request_read() {
+fn request_read(engine: Engine) {
     let spdu = REQUEST_32;
-    let r = spdu::read_request(params(2, 9), &spdu);
+    let r = spdu::read_request(engine, params(2, 9), &spdu);
     compared(b"request read, MCount", r.MCount as u64, 5);
     compared(b"request read, setSD", r.setSD as u64, 0);
     compared(b"request read, ChFAckReq", r.ChFAckReq as u64, 1);
@@ -168,27 +178,27 @@ fn request_read() {
 }
 
 // DTimeout flipped, and the port number of another port.
-fn damaged_read() {
+fn damaged_read(engine: Engine) {
     let mut spdu = RESPONSE_16;
     spdu[4] = 0x44;
-    let r = spdu::read_response(params(1, 7), &spdu);
+    let r = spdu::read_response(engine, params(1, 7), &spdu);
     compared(
         b"damaged response read, signature holds",
         r.signature_holds as u64,
         0,
     );
     spdu[3] = 0x02;
-    let r = spdu::read_response(params(1, 7), &spdu);
+    let r = spdu::read_response(engine, params(1, 7), &spdu);
     compared(b"damaged response read, port holds", r.port_holds as u64, 0);
 }
 
-pub(crate) fn run() {
-    requests();
-    responses();
-    zero_replaced();
-    composed();
+pub(crate) fn run(engine: Engine) {
+    requests(engine);
+    responses(engine);
+    zero_replaced(engine);
+    composed(engine);
     split();
-    response_read();
-    request_read();
-    damaged_read();
+    response_read(engine);
+    request_read(engine);
+    damaged_read(engine);
 }

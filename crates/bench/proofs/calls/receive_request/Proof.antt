@@ -6,7 +6,7 @@ use lib.ListN.{getD}
 use denote.Ref.{now}
 use Rattle.ranges.specs.Fields.{outside}
 use Rattle.spdu.specs.Signature.{byBits}
-use Rattle.spdu.proofs.Tables.{right-method}
+use Rattle.spdu.proofs.Engines.{right-method}
 use Rattle.bench.specs.declared.Setting.{Setting}
 use Rattle.bench.specs.declared.Act.{Act}
 use Rattle.bench.specs.Ports.{noPort}
@@ -25,14 +25,14 @@ returns c =
     let at-short = at-long .before in
     let at-place = at-short .before .before in
     let x = at-place .before .before .before .args in
-    let p = getD (x .t1 .ports) (at-place .place-of .result .index) noPort in
+    let p = getD (x .t2 .ports) (at-place .place-of .result .index) noPort in
     c .happened .ensures (x .at)
-    ∙ ap (λ (a : Act). acted (x .t1) (at-place .place-of .result .index) p (x .at) a)
+    ∙ ap (λ (a : Act). acted (x .t2) (at-place .place-of .result .index) p (x .at) a)
     (c .before .request-act .ensures
     ∙ ap (λ (sign : ℕ → List ℕ → ℕ). requestAct sign (at-place .place-of .result .outside) (p .setting) (x .at) (now (x .spdu)) (at-hold .safe-out-hold .result))
-    (right-method (at-short .table16 .ensures) (at-long .table32 .ensures)))
+    (right-method (x .engine) _ _ (at-short .table16-for .ensures .0) (at-long .table32-for .ensures .0)))
     ∙ simp (at-place .place-of .ensures .0, at-hold .safe-out-hold .ensures)
-    (act-after (x .t1) (x .port) (x .at)
+    (act-after (x .t2) (x .port) (x .at)
     (λ (s : Setting). requestAct byBits (outside 1 8 (x .port)) s (x .at) (now (x .spdu)) (safeOutHold (s .params) (now (x .safe))))
     (λ e s. nowhere-request byBits (outside 1 8 (x .port)) e s (x .at) (now (x .spdu)) (safeOutHold (s .params) (now (x .safe)))))
 

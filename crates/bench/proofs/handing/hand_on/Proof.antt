@@ -10,6 +10,7 @@ use Rattle.answer.specs.Rules.{answerBy}
 use Rattle.scl.specs.declared.Mark.{Mark}
 use Rattle.bench.specs.declared.Port.{Port}
 use Rattle.bench.specs.declared.End.{End}
+use Rattle.bench.specs.Methods.{annexD}
 use Rattle.bench.specs.Ports.{portAt}
 use Rattle.bench.specs.Handing.{lentRules, safeHoldsAt, partAt}
 use Rattle.bench.proofs.Copied.{copied, no-room, refused-at}
@@ -34,7 +35,7 @@ returns c =
     let p = portAt (args .b) (args .port) in
     let is : lent .lent-answer .result ≡ lentAt (args .port) p (args .end) (args .mark) (args .spdu .now) (safeHoldsAt (args .end) (p .setting .params) (args .safe .now)) =
     simp (lent .lent-answer .ensures, holds .safe-holds-at .ensures, port .port-at .ensures) in
-    let x = copied (args .port) p (args .end) (args .mark) (args .spdu .now) (args .safe .now) (args .out .now) _ _ is (sym (taken .is-taken .ensures) ∙ kept .if1 .taken) (part .part-at .ensures ∙ ap (λ (q : Port). partAt (args .end) q (args .mark) (args .spdu .now) (args .safe .now)) (port .port-at .ensures)) _ _ (room .if2 .taken) (copy .copy .ensures .0) (copy .copy .ensures .1) in
+    let x = copied (args .port) p (args .end) (args .mark) (args .spdu .now) (args .safe .now) (args .out .now) _ _ is (sym (taken .is-taken .ensures) ∙ kept .if1 .taken) (part .part-at .ensures ∙ ap (λ (q : Port). partAt annexD (args .end) q (args .mark) (args .spdu .now) (args .safe .now)) (port .port-at .ensures)) _ _ (room .if2 .taken) (copy .copy .ensures .0) (copy .copy .ensures .1) in
     (x .told-is, x .later-is)
 
 returns-2 : tie.Need-returns-2
@@ -49,7 +50,7 @@ returns-2 c =
     let p = portAt (args .b) (args .port) in
     let is : lent .lent-answer .result ≡ lentAt (args .port) p (args .end) (args .mark) (args .spdu .now) (safeHoldsAt (args .end) (p .setting .params) (args .safe .now)) =
     simp (lent .lent-answer .ensures, holds .safe-holds-at .ensures, port .port-at .ensures) in
-    let x = no-room (args .port) p (args .end) (args .mark) (args .spdu .now) (args .safe .now) (args .out .now) _ _ is (sym (taken .is-taken .ensures) ∙ kept .if1 .taken) (part .part-at .ensures ∙ ap (λ (q : Port). partAt (args .end) q (args .mark) (args .spdu .now) (args .safe .now)) (port .port-at .ensures)) (c .if2 .left) in
+    let x = no-room (args .port) p (args .end) (args .mark) (args .spdu .now) (args .safe .now) (args .out .now) _ _ is (sym (taken .is-taken .ensures) ∙ kept .if1 .taken) (part .part-at .ensures ∙ ap (λ (q : Port). partAt annexD (args .end) q (args .mark) (args .spdu .now) (args .safe .now)) (port .port-at .ensures)) (c .if2 .left) in
     (x .told-is, x .later-is)
 
 returns-3 : tie.Need-returns-3

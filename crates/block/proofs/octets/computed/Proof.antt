@@ -4,7 +4,7 @@ use Rattle.block.proofs.octets.computed.Statement.{statement}
 use Rattle.block.proofs.octets.computed.Tie as tie
 
 returns : tie.Need-returns
-returns c = simp (c .signature163 .ensures, c .before .before .signature162 .ensures, c .before .before .before .before .signature16 .ensures)
+returns c = simp (c .signature16-with3 .ensures, c .before .before .signature16-with2 .ensures, c .before .before .before .before .signature16-with .ensures)
 
 pub computed-spec : {M : Type 1} → statement M
 computed-spec =

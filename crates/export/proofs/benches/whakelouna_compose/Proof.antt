@@ -8,4 +8,4 @@ returns c =
     (simp (c .number .ensures, built .0), built .1)
 
 pub whakelouna-compose-spec : {M : Type 1} → statement M
-whakelouna-compose-spec = tie.close (tie.spec (λ c κs. search needs) (λ c κs. search needs) (λ c. search needs) returns)
+whakelouna-compose-spec = tie.close (tie.spec (λ c κs. search needs) (λ c κs. search needs) (λ c κs. search needs) (λ c. search needs) returns)

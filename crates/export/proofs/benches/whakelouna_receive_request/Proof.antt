@@ -7,4 +7,4 @@ returns c = simp (c .bench-told .ensures, c .before .receive-request .ensures)
 
 pub whakelouna-receive-request-spec : {M : Type 1} → statement M
 whakelouna-receive-request-spec =
-    tie.close (tie.spec (λ c κs. search needs) (λ c κs. search needs) returns)
+    tie.close (tie.spec (λ c κs. search needs) (λ c κs. search needs) (λ c κs. search needs) returns)

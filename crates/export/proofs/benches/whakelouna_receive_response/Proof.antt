@@ -7,4 +7,4 @@ returns c = simp (c .bench-told .ensures, c .before .receive-response .ensures)
 
 pub whakelouna-receive-response-spec : {M : Type 1} → statement M
 whakelouna-receive-response-spec =
-    tie.close (tie.spec (λ c κs. search needs) (λ c κs. search needs) returns)
+    tie.close (tie.spec (λ c κs. search needs) (λ c κs. search needs) (λ c κs. search needs) returns)

@@ -7,4 +7,4 @@ returns c = simp (c .bench-told .ensures, c .before .set-parameters .ensures)
 
 pub whakelouna-set-parameters-spec : {M : Type 1} → statement M
 whakelouna-set-parameters-spec =
-    tie.close (tie.spec (λ c κs. search needs) (λ c κs. search needs) returns)
+    tie.close (tie.spec (λ c κs. search needs) (λ c κs. search needs) (λ c κs. search needs) returns)

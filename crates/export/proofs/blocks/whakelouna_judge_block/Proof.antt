@@ -8,4 +8,4 @@ returns c = simp (c .offset .ensures, c .before .number .ensures, c .before .bef
 
 pub whakelouna-judge-block-spec : {M : Type 1} → statement M
 whakelouna-judge-block-spec =
-    tie.close (tie.spec (λ c κs. search needs) (λ c κs. search needs) (λ c κs. search needs) returns)
+    tie.close (tie.spec (λ c κs. search needs) (λ c κs. search needs) (λ c κs. search needs) (λ c κs. search needs) returns)

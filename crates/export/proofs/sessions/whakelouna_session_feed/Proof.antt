@@ -9,4 +9,4 @@ returns c =
 
 pub whakelouna-session-feed-spec : {M : Type 1} → statement M
 whakelouna-session-feed-spec =
-    tie.close (tie.spec (λ c κs. search needs) (λ c κs. search needs) (λ c. search needs) returns)
+    tie.close (tie.spec (λ c κs. search needs) (λ c κs. search needs) (λ c κs. search needs) (λ c. search needs) returns)

@@ -10,12 +10,12 @@ use lib.ListN.{length, set, drop, length-drop}
 use denote.Ref.{now}
 use denote.Enum.Declared.{tagOf}
 use types.Run.{OneOf}
-use Rattle.spdu.proofs.Tables.{right-method}
 use Rattle.bench.specs.declared.Setting.{Setting}
 use Rattle.bench.specs.declared.Live.{Live}
 use Rattle.bench.specs.declared.Act.{Act}
 use Rattle.bench.specs.Ports.{noPort}
 use Rattle.bench.specs.Columns.{packed}
+use Rattle.bench.proofs.Engines.{right-methods}
 use Rattle.bench.proofs.Acted.{answerIn, refused, accepted, happened}
 use Rattle.bench.proofs.Regulars.{regular-turn}
 use Rattle.bench.proofs.Raised.{below}
@@ -37,11 +37,11 @@ not-whole bad s p o = refl
 not-whole whole s p o = absurd (⊎-elim (λ (e : 0 ≡ 1). omega arith) (λ r. ⊎-elim (λ (e : 0 ≡ 2). omega arith) (λ (e : 0 ≡ 3). omega arith) r) o)
 
 abbrev Inv-loop : tie.InvT-loop
-Inv-loop records refused s out₀ short long none settings₀ lives₀ bins₀ refused₀ room left₀ at₀ written₀ out settings lives bins refused' left at written =
+Inv-loop engine records refused s out₀ short long none settings₀ lives₀ bins₀ refused₀ room left₀ at₀ written₀ out settings lives bins refused' left at written =
     Going (stateOf (packed settings₀ lives₀ bins₀) records refused₀) s out₀ room records out settings lives bins refused' left at written
 
 abbrev μ-loop : tie.MeasureT-loop
-μ-loop records refused s out₀ short long none settings₀ lives₀ bins₀ refused₀ room left₀ at₀ written₀ out settings lives bins refused' left at written =
+μ-loop engine records refused s out₀ short long none settings₀ lives₀ bins₀ refused₀ room left₀ at₀ written₀ out settings lives bins refused' left at written =
     left
 
 loop-holds : tie.Need-loop-holds Inv-loop μ-loop
@@ -99,7 +99,9 @@ loop-again c =
     let x = drop (l .at) (now (a .before .before .before .before .before .before .before .before .before .before .before .before .before .before .before .before .args .s)) in
     let f = whole-found (form x) x (l .at) _ _ _ _ _ (sym (a .before .before .before .before .before .before .before .before .before .read-record .ensures) ∙ a .before .before .before .before .before .before .before .kind .given .1) in
     let p = a .before .before .before .before .before .place-of in
-    let tables = right-method (a .before .before .before .before .before .before .before .before .before .before .before .before .before .table16 .ensures) (a .before .before .before .before .before .before .before .before .before .before .before .before .table32 .ensures) in
+    let at-short = a .before .before .before .before .before .before .before .before .before .before .before .before .before in
+    let at-long = a .before .before .before .before .before .before .before .before .before .before .before .before in
+    let tables = right-methods (at-short .before .before .before .args .engine) (at-short .table16-for .result) (at-long .table32-for .result) (at-short .table16-for .ensures .0) (at-long .table32-for .ensures .0) in
     let e = c .before .before .before .before .before .before .before .act .given .1 in
     let said = c .before .before .say in
     goes-on (l .inv) (omega (arith, a .before .before .before .before .before .before .before .before .before .before .loop-test .left)) f (p .ensures .0) (p .ensures .1) (noPort .setting) (noPort .live) tables (a .act-of .ensures)
@@ -118,7 +120,9 @@ loop-again-2 c =
     let x = drop (l .at) (now (a .before .before .before .before .before .before .before .before .before .before .before .before .before .before .before .before .args .s)) in
     let f = whole-found (form x) x (l .at) _ _ _ _ _ (sym (a .before .before .before .before .before .before .before .before .before .read-record .ensures) ∙ a .before .before .before .before .before .before .before .kind .given .1) in
     let p = a .before .before .before .before .before .place-of in
-    let tables = right-method (a .before .before .before .before .before .before .before .before .before .before .before .before .before .table16 .ensures) (a .before .before .before .before .before .before .before .before .before .before .before .before .table32 .ensures) in
+    let at-short = a .before .before .before .before .before .before .before .before .before .before .before .before .before in
+    let at-long = a .before .before .before .before .before .before .before .before .before .before .before .before in
+    let tables = right-methods (at-short .before .before .before .args .engine) (at-short .table16-for .result) (at-long .table32-for .result) (at-short .table16-for .ensures .0) (at-long .table32-for .ensures .0) in
     let e = c .before .before .before .before .act2 .given .1 in
     goes-on (l .inv) (omega (arith, a .before .before .before .before .before .before .before .before .before .before .loop-test .left)) f (p .ensures .0) (p .ensures .1) (noPort .setting) (noPort .live) tables (a .act-of .ensures)
     (accepted _ _ _ _ _ (l .inv .eight) (p .ensures .1) (noPort .setting) (noPort .live) e
@@ -143,7 +147,9 @@ loop-again-3 c =
     let x = drop (l .at) (now (a .before .before .before .before .before .before .before .before .before .before .before .before .before .before .before .before .args .s)) in
     let f = whole-found (form x) x (l .at) _ _ _ _ _ (sym (a .before .before .before .before .before .before .before .before .before .read-record .ensures) ∙ a .before .before .before .before .before .before .before .kind .given .1) in
     let p = a .before .before .before .before .before .place-of in
-    let tables = right-method (a .before .before .before .before .before .before .before .before .before .before .before .before .before .table16 .ensures) (a .before .before .before .before .before .before .before .before .before .before .before .before .table32 .ensures) in
+    let at-short = a .before .before .before .before .before .before .before .before .before .before .before .before .before in
+    let at-long = a .before .before .before .before .before .before .before .before .before .before .before .before in
+    let tables = right-methods (at-short .before .before .before .args .engine) (at-short .table16-for .result) (at-long .table32-for .result) (at-short .table16-for .ensures .0) (at-long .table32-for .ensures .0) in
     let e = c .before .before .before .before .before .before .before .before .before .act3 .given .1 in
     goes-on (l .inv) (omega (arith, a .before .before .before .before .before .before .before .before .before .before .loop-test .left)) f (p .ensures .0) (p .ensures .1) (noPort .setting) (noPort .live) tables (a .act-of .ensures)
     (happened _ _ _ _ _ (l .inv .eight) (p .ensures .1) (noPort .setting) (noPort .live) _ _ (c .before .before .before .regular .ensures ∙ regular-turn _ _ _ (sym (c .before .before .before .before .before .before .is-regular .ensures) ∙ c .before .before .before .before .before .if1 .taken)) e refl refl (c .raise .ensures))
@@ -164,7 +170,9 @@ loop-again-4 c =
     let x = drop (l .at) (now (a .before .before .before .before .before .before .before .before .before .before .before .before .before .before .before .before .args .s)) in
     let f = whole-found (form x) x (l .at) _ _ _ _ _ (sym (a .before .before .before .before .before .before .before .before .before .read-record .ensures) ∙ a .before .before .before .before .before .before .before .kind .given .1) in
     let p = a .before .before .before .before .before .place-of in
-    let tables = right-method (a .before .before .before .before .before .before .before .before .before .before .before .before .before .table16 .ensures) (a .before .before .before .before .before .before .before .before .before .before .before .before .table32 .ensures) in
+    let at-short = a .before .before .before .before .before .before .before .before .before .before .before .before .before in
+    let at-long = a .before .before .before .before .before .before .before .before .before .before .before .before in
+    let tables = right-methods (at-short .before .before .before .args .engine) (at-short .table16-for .result) (at-long .table32-for .result) (at-short .table16-for .ensures .0) (at-long .table32-for .ensures .0) in
     let e = c .before .before .before .before .before .before .before .before .before .act3 .given .1 in
     goes-on (l .inv) (omega (arith, a .before .before .before .before .before .before .before .before .before .before .loop-test .left)) f (p .ensures .0) (p .ensures .1) (noPort .setting) (noPort .live) tables (a .act-of .ensures)
     (happened _ _ _ _ _ (l .inv .eight) (p .ensures .1) (noPort .setting) (noPort .live) _ _ (c .before .before .before .turn .ensures) e refl refl (c .raise2 .ensures))

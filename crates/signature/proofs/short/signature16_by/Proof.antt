@@ -2,21 +2,22 @@
 use Prim.Native.Nat.{_-_}
 use borrow.Author.Needs.{needs}
 use lib.ListN.{length}
-use Rattle.signature.proofs.Law.{Left, start, again, done}
+use Rattle.signature.specs.Lookup.{byTable}
+use Rattle.signature.proofs.Loop.{Left, start, again, done, table-by-octets}
 use Rattle.signature.proofs.short.signature16_by.Statement.{statement}
 use Rattle.signature.proofs.short.signature16_by.Tie as tie
 
 abbrev Inv-loop : tie.InvT-loop
-Inv-loop table seed octets register₀ i₀ register i = Left 16 8 table seed octets register i
+Inv-loop table seed octets register₀ i₀ register i = Left (byTable 16 8 table) seed octets register i
 
 abbrev μ-loop : tie.MeasureT-loop
 μ-loop table seed octets register₀ i₀ register i = length octets - i
 
 loop-again : tie.Need-loop-again Inv-loop μ-loop
-loop-again c = again (c .before .before .before .loop .inv) (search needs) (c .step16-by .ensures)
+loop-again c = again (table-by-octets 16 8 _) (c .before .before .before .loop .inv) (search needs) (c .step16-by .ensures)
 
 returns : tie.Need-returns Inv-loop μ-loop
-returns c = done (c .before .loop .inv) (search needs)
+returns c = done (table-by-octets 16 8 _) (c .before .loop .inv) (search needs)
 
 pub signature16-by-spec : {M : Type 1} → statement M
 signature16-by-spec =

@@ -3,7 +3,7 @@ use mathlib.Core.Path.{sym, ap, _∙_}
 use mathlib.Core.Bool.{Bool}
 use native.Mathlib.Omega.{arith}
 use lib.ListN.{length}
-use Rattle.spdu.specs.Signature.{byTables}
+use Rattle.spdu.specs.Signature.{byEngine}
 use Rattle.spdu.specs.Built.{processSent, builtAs}
 use Rattle.spdu.proofs.Buffers.{held, request-built}
 use borrow.Author.Needs.{needs}
@@ -35,7 +35,7 @@ returns c =
     let args = call .before .before .before .args in
     let h = sym (call .buffers-hold .ensures .0) ∙ at-hold .if1 .taken in (
       sym (ap builtAs h),
-      request-built (byTables (args .short .now) (args .long .now)) (args .p) (args .process .now) (args .out .now) (args .MCount) (args .setSD) (args .ChFAckReq) h (at-control .control-octet .ensures)
+      request-built (byEngine (args .engine) (args .short .now) (args .long .now)) (args .p) (args .process .now) (args .out .now) (args .MCount) (args .setSD) (args .ChFAckReq) h (at-control .control-octet .ensures)
           (sym (ap (λ (b : Bool). processSent b (args .process .now)) (at-setSD .if2 .taken))) (at-write .write-zeros .ensures),
     )
 
@@ -49,7 +49,7 @@ returns-2 c =
     let args = call .before .before .before .args in
     let h = sym (call .buffers-hold .ensures .0) ∙ at-hold .if1 .taken in (
       sym (ap builtAs h),
-      request-built (byTables (args .short .now) (args .long .now)) (args .p) (args .process .now) (args .out .now) (args .MCount) (args .setSD) (args .ChFAckReq) h (at-control .control-octet .ensures)
+      request-built (byEngine (args .engine) (args .short .now) (args .long .now)) (args .p) (args .process .now) (args .out .now) (args .MCount) (args .setSD) (args .ChFAckReq) h (at-control .control-octet .ensures)
           (sym (ap (λ (b : Bool). processSent b (args .process .now)) (at-setSD .if2 .left))) (at-write .write .ensures),
     )
 

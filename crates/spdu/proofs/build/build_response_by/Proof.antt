@@ -1,7 +1,7 @@
 -- `spdu::build::build_response_by` meets its contract. Assumes nothing.
 use mathlib.Core.Path.{sym, ap, _∙_}
 use lib.ListN.{length}
-use Rattle.spdu.specs.Signature.{byTables}
+use Rattle.spdu.specs.Signature.{byEngine}
 use Rattle.spdu.specs.Built.{builtAs}
 use Rattle.spdu.proofs.Buffers.{held, response-built}
 use borrow.Author.Needs.{needs}
@@ -31,7 +31,7 @@ returns c =
     let args = call .before .before .before .args in
     let h = sym (call .buffers-hold .ensures .0) ∙ at-hold .if1 .taken in (
       sym (ap builtAs h),
-      response-built (byTables (args .short .now) (args .long .now)) (args .p) (args .process .now) (args .out .now) (args .responded) (args .DCount-i) (args .SDset) (args .DCommErr) (args .DTimeout) h (simp (at-responded .if2 .taken, ← at-status .status-octet .ensures) (at-write .write .ensures)),
+      response-built (byEngine (args .engine) (args .short .now) (args .long .now)) (args .p) (args .process .now) (args .out .now) (args .responded) (args .DCount-i) (args .SDset) (args .DCommErr) (args .DTimeout) h (simp (at-responded .if2 .taken, ← at-status .status-octet .ensures) (at-write .write .ensures)),
     )
 
 returns-2 : tie.Need-returns-2
@@ -43,7 +43,7 @@ returns-2 c =
     let args = call .before .before .before .args in
     let h = sym (call .buffers-hold .ensures .0) ∙ at-hold .if1 .taken in (
       sym (ap builtAs h),
-      response-built (byTables (args .short .now) (args .long .now)) (args .p) (args .process .now) (args .out .now) (args .responded) (args .DCount-i) (args .SDset) (args .DCommErr) (args .DTimeout) h (simp (at-responded .if2 .left) (at-clear .clear .ensures)),
+      response-built (byEngine (args .engine) (args .short .now) (args .long .now)) (args .p) (args .process .now) (args .out .now) (args .responded) (args .DCount-i) (args .SDset) (args .DCommErr) (args .DTimeout) h (simp (at-responded .if2 .left) (at-clear .clear .ensures)),
     )
 
 returns-3 : tie.Need-returns-3

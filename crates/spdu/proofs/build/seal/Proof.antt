@@ -3,10 +3,11 @@ use mathlib.Core.Path.{sym, ap, _∙_}
 use mathlib.Core.Bool.{Bool, cond}
 use borrow.Author.Needs.{needs}
 use borrow.Author.Tests.{eq-eqb, ne-eqb}
-use Rattle.signature.specs.Lookup.{byTable}
+use Rattle.gf2.specs.Generators.{generator16, generator32}
+use Rattle.signature.specs.Engines.{signedBy}
 use Rattle.spdu.specs.Signature.{replaced}
 use Rattle.spdu.specs.Built.{contentsWith}
-use Rattle.spdu.proofs.Tables.{sealed}
+use Rattle.spdu.proofs.Engines.{sealed}
 use Rattle.spdu.proofs.build.seal.Statement.{statement}
 use Rattle.spdu.proofs.build.seal.Tie as tie
 
@@ -19,8 +20,8 @@ returns c =
     let t = args .short .now in
     c .replace .ensures
     ∙ ap replaced
-    (sealed 16 8 t (args .process .now) (args .port) (args .control) (c3 .signature16-by .ensures) (c2 .step16-by .ensures) (c1 .step16-by2 .ensures)
-    ∙ ap (λ (b : Bool). byTable (cond b 16 32) (cond b 8 4) (cond b t (args .long .now)) 1 (contentsWith (args .process .now) (args .port) (args .control))) (sym (eq-eqb (args .mode) 1 (c3 .before .if1 .taken))))
+    (sealed (args .engine) 16 generator16 8 t (args .process .now) (args .port) (args .control) (c3 .signature16-with .ensures) (c2 .step16-with .ensures) (c1 .step16-with2 .ensures)
+    ∙ ap (λ (b : Bool). signedBy (args .engine) (cond b 16 32) (cond b generator16 generator32) (cond b 8 4) (cond b t (args .long .now)) 1 (contentsWith (args .process .now) (args .port) (args .control))) (sym (eq-eqb (args .mode) 1 (c3 .before .if1 .taken))))
 
 returns-2 : tie.Need-returns-2
 returns-2 c =
@@ -31,8 +32,8 @@ returns-2 c =
     let t = args .long .now in
     c .replace2 .ensures
     ∙ ap replaced
-    (sealed 32 4 t (args .process .now) (args .port) (args .control) (c3 .signature32-by .ensures) (c2 .step32-by .ensures) (c1 .step32-by2 .ensures)
-    ∙ ap (λ (b : Bool). byTable (cond b 16 32) (cond b 8 4) (cond b (args .short .now) t) 1 (contentsWith (args .process .now) (args .port) (args .control))) (sym (ne-eqb (args .mode) 1 (c3 .before .if1 .left))))
+    (sealed (args .engine) 32 generator32 4 t (args .process .now) (args .port) (args .control) (c3 .signature32-with .ensures) (c2 .step32-with .ensures) (c1 .step32-with2 .ensures)
+    ∙ ap (λ (b : Bool). signedBy (args .engine) (cond b 16 32) (cond b generator16 generator32) (cond b 8 4) (cond b (args .short .now) t) 1 (contentsWith (args .process .now) (args .port) (args .control))) (sym (ne-eqb (args .mode) 1 (c3 .before .if1 .left))))
 
 pub seal-spec : {M : Type 1} → statement M
 seal-spec =

@@ -1,7 +1,7 @@
 -- `spdu::build::write` meets its contract: process octets and trailer are the SPDU. Assumes nothing.
 use borrow.Author.Needs.{needs}
 use borrow.Author.Tests.{eq-eqb, ne-eqb}
-use Rattle.spdu.specs.Signature.{byTables}
+use Rattle.spdu.specs.Signature.{byEngine}
 use Rattle.spdu.proofs.Trailer.{as-long, written}
 use Rattle.spdu.proofs.build.write.Statement.{statement}
 use Rattle.spdu.proofs.build.write.Tie as tie
@@ -31,7 +31,7 @@ returns c =
     let at-mode = at-trailer .before in
     let at-seal = at-mode .before in
     let args = at-seal .before .before .before .args in
-    written (args .mode) (eq-eqb (args .mode) 1 (at-mode .if1 .taken)) (args .process .now) (args .port) (args .control) (byTables (args .short .now) (args .long .now)) (at-seal .seal .result) (at-trailer .short-trailer .result) (at-join .join .ensures) (at-trailer .short-trailer .ensures) (at-seal .seal .ensures)
+    written (args .mode) (eq-eqb (args .mode) 1 (at-mode .if1 .taken)) (args .process .now) (args .port) (args .control) (byEngine (args .engine) (args .short .now) (args .long .now)) (at-seal .seal .result) (at-trailer .short-trailer .result) (at-join .join .ensures) (at-trailer .short-trailer .ensures) (at-seal .seal .ensures)
 
 returns-2 : tie.Need-returns-2
 returns-2 c =
@@ -40,7 +40,7 @@ returns-2 c =
     let at-mode = at-trailer .before in
     let at-seal = at-mode .before in
     let args = at-seal .before .before .before .args in
-    written (args .mode) (ne-eqb (args .mode) 1 (at-mode .if1 .left)) (args .process .now) (args .port) (args .control) (byTables (args .short .now) (args .long .now)) (at-seal .seal .result) (at-trailer .long-trailer .result) (at-join .join2 .ensures) (at-trailer .long-trailer .ensures) (at-seal .seal .ensures)
+    written (args .mode) (ne-eqb (args .mode) 1 (at-mode .if1 .left)) (args .process .now) (args .port) (args .control) (byEngine (args .engine) (args .short .now) (args .long .now)) (at-seal .seal .result) (at-trailer .long-trailer .result) (at-join .join2 .ensures) (at-trailer .long-trailer .ensures) (at-seal .seal .ensures)
 
 pub write-spec : {M : Type 1} → statement M
 write-spec =

@@ -3,7 +3,7 @@ use mathlib.Core.Path.{ap, _∙_}
 use mathlib.Core.List.{List}
 use Prim.Native.Nat.{ℕ, _+_}
 use Rattle.ranges.specs.Fields.{safetyOctets}
-use Rattle.spdu.specs.Signature.{byTables}
+use Rattle.spdu.specs.Signature.{byEngine}
 use Rattle.spdu.specs.Built.{spduWith}
 use Rattle.spdu.proofs.Buffers.{zeros-part, zeros-length}
 use borrow.Author.Needs.{needs}
@@ -24,7 +24,7 @@ returns c =
     let at-start = c1 .before .before .before .before in
     let args = at-start .args in
     c1 .write .ensures
-    ∙ ap (λ (l : List ℕ). spduWith (byTables (args .short .now) (args .long .now)) (args .mode) l (args .port) (args .control)) (zeros-part (args .n) (at-start .pre .1))
+    ∙ ap (λ (l : List ℕ). spduWith (byEngine (args .engine) (args .short .now) (args .long .now)) (args .mode) l (args .port) (args .control)) (zeros-part (args .n) (at-start .pre .1))
 
 pub write-zeros-spec : {M : Type 1} → statement M
 write-zeros-spec =

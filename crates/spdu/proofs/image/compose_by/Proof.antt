@@ -2,7 +2,7 @@
 use mathlib.Core.Path.{sym, ap, _∙_}
 use mathlib.Core.List.{[]}
 use native.Mathlib.Omega.{arith}
-use Rattle.spdu.specs.Signature.{byTables}
+use Rattle.spdu.specs.Signature.{byEngine}
 use Rattle.spdu.specs.Built.{builtAs}
 use Rattle.spdu.proofs.Composed.{within, lent, first-length, room, whole}
 use borrow.Author.Needs.{needs}
@@ -15,7 +15,7 @@ slice-relend-prefix-build-request-by c =
     let call = at-hold .before in
     let args = call .before .before .before .before .before .args in
     let h = sym (call .composer-fits .ensures) ∙ at-hold .if1 .taken in
-    within (byTables (args .short .now) (args .long .now)) (args .p) (args .MCount) (args .setSD) (args .ChFAckReq) (args .process .now) (args .other .now) (args .octets .now) h
+    within (byEngine (args .engine) (args .short .now) (args .long .now)) (args .p) (args .MCount) (args .setSD) (args .ChFAckReq) (args .process .now) (args .other .now) (args .octets .now) h
 
 slice-aggregate-build-request-by : tie.Need-slice-aggregate-build-request-by
 slice-aggregate-build-request-by c =
@@ -23,7 +23,7 @@ slice-aggregate-build-request-by c =
     let call = at-hold .before in
     let args = call .before .before .before .before .before .args in
     let h = sym (call .composer-fits .ensures) ∙ at-hold .if1 .taken in
-    lent (byTables (args .short .now) (args .long .now)) (args .p) (args .MCount) (args .setSD) (args .ChFAckReq) (args .process .now) (args .other .now) (args .octets .now) h
+    lent (byEngine (args .engine) (args .short .now) (args .long .now)) (args .p) (args .MCount) (args .setSD) (args .ChFAckReq) (args .process .now) (args .other .now) (args .octets .now) h
 
 sub-copy : tie.Need-sub-copy
 sub-copy c =
@@ -31,7 +31,7 @@ sub-copy c =
     let call = at-hold .before in
     let args = call .before .before .before .before .before .args in
     let h = sym (call .composer-fits .ensures) ∙ at-hold .if1 .taken in
-    omega (arith, within (byTables (args .short .now) (args .long .now)) (args .p) (args .MCount) (args .setSD) (args .ChFAckReq) (args .process .now) (args .other .now) (args .octets .now) h, first-length (byTables (args .short .now) (args .long .now)) (args .p) (args .MCount) (args .setSD) (args .ChFAckReq) (args .process .now) (args .other .now) (args .octets .now) h (c .before .before .build-request-by .last .1 .1 .1 .1 .1 .1 .1 .0) [] (c .before .before .build-request-by .ensures .1))
+    omega (arith, within (byEngine (args .engine) (args .short .now) (args .long .now)) (args .p) (args .MCount) (args .setSD) (args .ChFAckReq) (args .process .now) (args .other .now) (args .octets .now) h, first-length (byEngine (args .engine) (args .short .now) (args .long .now)) (args .p) (args .MCount) (args .setSD) (args .ChFAckReq) (args .process .now) (args .other .now) (args .octets .now) h (c .before .before .build-request-by .last .1 .1 .1 .1 .1 .1 .1 .1 .0) [] (c .before .before .build-request-by .ensures .1))
 
 part-copy-start : tie.Need-part-copy-start
 part-copy-start c =
@@ -39,7 +39,7 @@ part-copy-start c =
     let call = at-hold .before in
     let args = call .before .before .before .before .before .args in
     let h = sym (call .composer-fits .ensures) ∙ at-hold .if1 .taken in
-    omega (arith, within (byTables (args .short .now) (args .long .now)) (args .p) (args .MCount) (args .setSD) (args .ChFAckReq) (args .process .now) (args .other .now) (args .octets .now) h, first-length (byTables (args .short .now) (args .long .now)) (args .p) (args .MCount) (args .setSD) (args .ChFAckReq) (args .process .now) (args .other .now) (args .octets .now) h (c .before .before .build-request-by .last .1 .1 .1 .1 .1 .1 .1 .0) [] (c .before .before .build-request-by .ensures .1))
+    omega (arith, within (byEngine (args .engine) (args .short .now) (args .long .now)) (args .p) (args .MCount) (args .setSD) (args .ChFAckReq) (args .process .now) (args .other .now) (args .octets .now) h, first-length (byEngine (args .engine) (args .short .now) (args .long .now)) (args .p) (args .MCount) (args .setSD) (args .ChFAckReq) (args .process .now) (args .other .now) (args .octets .now) h (c .before .before .build-request-by .last .1 .1 .1 .1 .1 .1 .1 .1 .0) [] (c .before .before .build-request-by .ensures .1))
 
 copy-requires : tie.Need-copy-requires
 copy-requires c κs =
@@ -47,7 +47,7 @@ copy-requires c κs =
     let call = at-hold .before in
     let args = call .before .before .before .before .before .args in
     let h = sym (call .composer-fits .ensures) ∙ at-hold .if1 .taken in
-    room (byTables (args .short .now) (args .long .now)) (args .p) (args .MCount) (args .setSD) (args .ChFAckReq) (args .process .now) (args .other .now) (args .octets .now) h (c .before .before .before .build-request-by .last .1 .1 .1 .1 .1 .1 .1 .0) [] (c .before .before .before .build-request-by .ensures .1)
+    room (byEngine (args .engine) (args .short .now) (args .long .now)) (args .p) (args .MCount) (args .setSD) (args .ChFAckReq) (args .process .now) (args .other .now) (args .octets .now) h (c .before .before .before .build-request-by .last .1 .1 .1 .1 .1 .1 .1 .1 .0) [] (c .before .before .before .build-request-by .ensures .1)
 
 returns : tie.Need-returns
 returns c =
@@ -55,7 +55,7 @@ returns c =
     let call = at-hold .before in
     let args = call .before .before .before .before .before .args in
     let h = sym (call .composer-fits .ensures) ∙ at-hold .if1 .taken in
-    (sym (ap builtAs h), whole (byTables (args .short .now) (args .long .now)) (args .p) (args .MCount) (args .setSD) (args .ChFAckReq) (args .process .now) (args .other .now) (args .octets .now) h (c .before .before .before .before .before .before .build-request-by .last .1 .1 .1 .1 .1 .1 .1 .0) (c .before .before .copy .last .1 .0) (c .before .before .before .before .before .before .build-request-by .ensures .1) (c .before .before .copy .ensures .1))
+    (sym (ap builtAs h), whole (byEngine (args .engine) (args .short .now) (args .long .now)) (args .p) (args .MCount) (args .setSD) (args .ChFAckReq) (args .process .now) (args .other .now) (args .octets .now) h (c .before .before .before .before .before .before .build-request-by .last .1 .1 .1 .1 .1 .1 .1 .1 .0) (c .before .before .copy .last .1 .0) (c .before .before .before .before .before .before .build-request-by .ensures .1) (c .before .before .copy .ensures .1))
 
 returns-2 : tie.Need-returns-2
 returns-2 c =

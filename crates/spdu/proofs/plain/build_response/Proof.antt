@@ -2,7 +2,7 @@
 use mathlib.Core.Path.{ap, _∙_}
 use mathlib.Core.List.{List}
 use Prim.Native.Nat.{ℕ}
-use Rattle.spdu.proofs.Tables.{right-method}
+use Rattle.spdu.proofs.Engines.{right-method}
 use Rattle.spdu.specs.Built.{responseBuilt}
 use borrow.Author.Needs.{needs}
 use Rattle.spdu.proofs.plain.build_response.Statement.{statement}
@@ -15,7 +15,7 @@ returns c =
     let at-short = at-long .before in
     let args = at-short .before .before .before .args in (
       call .build-response-by .ensures .0,
-      call .build-response-by .ensures .1 ∙ ap (λ (sign : ℕ → List ℕ → ℕ). responseBuilt sign (args .p) (args .responded) (args .DCount-i) (args .SDset) (args .DCommErr) (args .DTimeout) (args .process .now) (args .out .now)) (right-method (at-short .table16 .ensures) (at-long .table32 .ensures)),
+      call .build-response-by .ensures .1 ∙ ap (λ (sign : ℕ → List ℕ → ℕ). responseBuilt sign (args .p) (args .responded) (args .DCount-i) (args .SDset) (args .DCommErr) (args .DTimeout) (args .process .now) (args .out .now)) (right-method (args .engine) _ _ (at-short .table16-for .ensures .0) (at-long .table32-for .ensures .0)),
     )
 
 pub build-response-spec : {M : Type 1} → statement M

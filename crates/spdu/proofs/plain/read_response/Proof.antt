@@ -2,7 +2,7 @@
 use mathlib.Core.Path.{ap, _∙_}
 use mathlib.Core.List.{List}
 use Prim.Native.Nat.{ℕ}
-use Rattle.spdu.proofs.Tables.{right-method}
+use Rattle.spdu.proofs.Engines.{right-method}
 use Rattle.spdu.specs.Fields.{responseBy}
 use borrow.Author.Needs.{needs}
 use Rattle.spdu.proofs.plain.read_response.Statement.{statement}
@@ -13,7 +13,7 @@ returns c =
     let at-long = c .before .before .before in
     let at-short = at-long .before in
     let args = at-short .before .before .args in
-    c .read-response-by .ensures ∙ ap (λ (sign : ℕ → List ℕ → ℕ). responseBy sign (args .p) (args .s .now)) (right-method (at-short .table16 .ensures) (at-long .table32 .ensures))
+    c .read-response-by .ensures ∙ ap (λ (sign : ℕ → List ℕ → ℕ). responseBy sign (args .p) (args .s .now)) (right-method (args .engine) _ _ (at-short .table16-for .ensures .0) (at-long .table32-for .ensures .0))
 
 pub read-response-spec : {M : Type 1} → statement M
 read-response-spec =

@@ -9,8 +9,8 @@ use lib.Seq.{length-take-le}
 use Rattle.spdu.proofs.read.long_holds.Statement.{statement}
 use Rattle.spdu.proofs.read.long_holds.Tie as tie
 
-slice-aggregate-signature32-by : tie.Need-slice-aggregate-signature32-by
-slice-aggregate-signature32-by c =
+slice-aggregate-signature32-with : tie.Need-slice-aggregate-signature32-with
+slice-aggregate-signature32-with c =
     let s = c .before .before .args .s .now in
     sym (length-take-le (length s - 4) s (omega arith))
 
@@ -21,14 +21,14 @@ returns c =
     let at-start = at-replace .before .before .before .before in
     let n = length (at-start .args .s .now) in
     let end : n - 6 + 2 ≡ n - 4 = omega (arith, at-start .pre) in
-    simp (c .word2 .ensures, at-high .word .ensures, at-replace .replace .ensures, at-replace .before .signature32-by .ensures, end, add-assoc)
+    simp (c .word2 .ensures, at-high .word .ensures, at-replace .replace .ensures, at-replace .before .signature32-with .ensures, end, add-assoc)
 
 pub long-holds-spec : {M : Type 1} → statement M
 long-holds-spec =
     tie.close
     (tie.spec
     (λ c. search needs)
-    slice-aggregate-signature32-by
+    slice-aggregate-signature32-with
     (λ c κs. search needs)
     (λ c κs. search needs)
     (λ c. search needs)

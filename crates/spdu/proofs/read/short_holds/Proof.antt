@@ -8,8 +8,8 @@ use lib.Seq.{length-take-le}
 use Rattle.spdu.proofs.read.short_holds.Statement.{statement}
 use Rattle.spdu.proofs.read.short_holds.Tie as tie
 
-slice-aggregate-signature16-by : tie.Need-slice-aggregate-signature16-by
-slice-aggregate-signature16-by c =
+slice-aggregate-signature16-with : tie.Need-slice-aggregate-signature16-with
+slice-aggregate-signature16-with c =
     let s = c .before .before .args .s .now in
     sym (length-take-le (length s - 2) s (omega arith))
 
@@ -19,14 +19,14 @@ returns c =
     let at-start = at-replace .before .before .before .before in
     let n = length (at-start .args .s .now) in
     let end : n - 4 + 2 ≡ n - 2 = omega (arith, at-start .pre) in
-    simp (c .word .ensures, at-replace .replace .ensures, at-replace .before .signature16-by .ensures, end)
+    simp (c .word .ensures, at-replace .replace .ensures, at-replace .before .signature16-with .ensures, end)
 
 pub short-holds-spec : {M : Type 1} → statement M
 short-holds-spec =
     tie.close
     (tie.spec
     (λ c. search needs)
-    slice-aggregate-signature16-by
+    slice-aggregate-signature16-with
     (λ c κs. search needs)
     (λ c. search needs)
     (λ c κs. search needs)

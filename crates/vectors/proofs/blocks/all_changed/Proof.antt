@@ -6,10 +6,10 @@ use Rattle.vectors.proofs.blocks.all_changed.Statement.{statement}
 use Rattle.vectors.proofs.blocks.all_changed.Tie as tie
 
 abbrev Inv-loop : tie.InvT-loop
-Inv-loop name rows signed-before i₀ i = i ≤ length rows
+Inv-loop engine name rows signed-before i₀ i = i ≤ length rows
 
 abbrev μ-loop : tie.MeasureT-loop
-μ-loop name rows signed-before i₀ i = length rows - i
+μ-loop engine name rows signed-before i₀ i = length rows - i
 
 pub all-changed-spec : {M : Type 1} → statement M
 all-changed-spec =

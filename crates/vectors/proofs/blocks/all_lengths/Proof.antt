@@ -6,10 +6,10 @@ use Rattle.vectors.proofs.blocks.all_lengths.Statement.{statement}
 use Rattle.vectors.proofs.blocks.all_lengths.Tie as tie
 
 abbrev Inv-loop : tie.InvT-loop
-Inv-loop name rows block i₀ i = i ≤ length rows
+Inv-loop engine name rows block i₀ i = i ≤ length rows
 
 abbrev μ-loop : tie.MeasureT-loop
-μ-loop name rows block i₀ i = length rows - i
+μ-loop engine name rows block i₀ i = length rows - i
 
 pub all-lengths-spec : {M : Type 1} → statement M
 all-lengths-spec =

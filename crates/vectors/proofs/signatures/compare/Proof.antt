@@ -10,10 +10,10 @@ use Rattle.vectors.proofs.signatures.compare.Statement.{statement}
 use Rattle.vectors.proofs.signatures.compare.Tie as tie
 
 abbrev Inv-loop : tie.InvT-loop
-Inv-loop name printed width digits differ₀ i₀ differ i = DifferBefore width printed differ i
+Inv-loop engine name printed width digits differ₀ i₀ differ i = DifferBefore width printed differ i
 
 abbrev μ-loop : tie.MeasureT-loop
-μ-loop name printed width digits differ₀ i₀ differ i = 256 - i
+μ-loop engine name printed width digits differ₀ i₀ differ i = 256 - i
 
 loop-again : tie.Need-loop-again Inv-loop μ-loop
 loop-again c =
