@@ -326,7 +326,8 @@ struct whakelouna_split_told whakelouna_split(struct whakelouna_bench bench, uin
 struct whakelouna_handed_told whakelouna_handed_on(bool shift, struct whakelouna_bench bench, uint8_t port, bool device, uint8_t mark,
     const uint8_t *spdu, size_t spdu_length, const uint8_t *safe, size_t safe_length, uint8_t *out, size_t out_length);
 
-// What a port shows.
+// What a port shows. Bins and trend point are those of its samples since the last accepted block: the responses that came within the watchdog time and in
+// whose call the FS-Master's mark was 0, fresh.
 struct whakelouna_trend_told whakelouna_trend(struct whakelouna_bench bench, uint8_t port);
 struct whakelouna_bins_told whakelouna_bins(struct whakelouna_bench bench, uint8_t port);
 struct whakelouna_master_told whakelouna_master(struct whakelouna_bench bench, uint8_t port);

@@ -132,8 +132,10 @@ impl Running {
         if said.arrival != 0 {
             self.last_counts[0] = received.count;
         }
+        let [sd_set, ..] = received.bits;
+        let releases = matches!(said.arrival, 4 | 11) && !sd_set && !self.master.set_sd_c;
         let time = elapsed(at, since);
-        if said.passed && !said.old && time <= self.w().into() {
+        if said.passed && releases && time <= self.w().into() {
             self.samples.list.push(time as u16);
         }
         said
@@ -230,13 +232,20 @@ pub struct BenchModel {
     ports: [Option<Running>; 8],
     /// How often each row of Tables 38 and 40 acted.
     pub rows: [u64; 32],
+    /// How often a response that passed led to each row: those that are no samples, then those that are.
+    pub passed: [[u64; 32]; 2],
     /// What the last call with a reading handed on, for the FS-Master and for the FS-Device.
     pub handed_on: [Vec<u8>; 2],
 }
 
 impl BenchModel {
     pub fn new() -> BenchModel {
-        BenchModel { ports: [(); 8].map(|_| None), rows: [0; 32], handed_on: [vec![], vec![]] }
+        BenchModel {
+            ports: [(); 8].map(|_| None),
+            rows: [0; 32],
+            passed: [[0; 32]; 2],
+            handed_on: [vec![], vec![]],
+        }
     }
 
     /// "For every other call: 8, 9": the port addressed.
@@ -262,9 +271,14 @@ impl BenchModel {
             return Reply::silent(number, 0);
         }
         let running = self.ports[usize::from(port) - 1].as_mut().unwrap();
+        let samples = running.samples.list.len();
         let mut said = running.judge(at);
         let watchdogs = said.map(|said| said.watchdog);
         arrival(running, &mut said);
+        if said[0].passed {
+            let counts = running.samples.list.len() > samples;
+            self.passed[usize::from(counts)][usize::from(said[0].arrival)] += 1;
+        }
         self.handed_on = running.handed_on(said.map(|said| said.arrival), spdu);
         for row in watchdogs.into_iter().chain(said.map(|said| said.arrival)) {
             self.rows[usize::from(row)] += 1;

@@ -378,7 +378,8 @@ fn main() {
     finish(pair);
 }
 
-/// Prints how often each answer was given and each row acted. Each has to be.
+/// Prints how often each answer was given, each row acted and a response that passed was a sample or none, by its row. Each has
+/// to be.
 fn finish(mut pair: Pair) {
     pair.take_rows();
     println!("bench: {} calls", pair.calls);
@@ -395,6 +396,14 @@ fn finish(mut pair: Pair) {
         let count = pair.rows[row];
         println!("bench: T{row} acted {count} times");
         pair.comparisons.compare(true, count > 0, || format!("T{row} acted"));
+    }
+    for (is_sample, rows) in [(false, &[4, 7, 11, 12, 13][..]), (true, &[4, 11])] {
+        let samples = if is_sample { "samples" } else { "no samples" };
+        for &row in rows {
+            let count = pair.passed[usize::from(is_sample)][row];
+            println!("bench: {count} responses passed by T{row} and are {samples}");
+            pair.comparisons.compare(true, count > 0, || format!("T{row}: {samples}"));
+        }
     }
     pair.comparisons.finish();
 }

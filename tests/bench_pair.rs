@@ -24,6 +24,7 @@ pub struct Pair {
     /// How often each number was answered, 13 being a session's alone, and how often each row acted.
     pub answers: [u64; 13],
     pub rows: [u64; 32],
+    pub passed: [[u64; 32]; 2],
     /// How often each number was answered where handed on octets were copied.
     pub copies: [u64; 13],
 }
@@ -76,6 +77,7 @@ impl Pair {
             calls: 0,
             answers: [0; 13],
             rows: [0; 32],
+            passed: [[0; 32]; 2],
             copies: [0; 13],
         }
     }
@@ -90,9 +92,11 @@ impl Pair {
         self.compare_bench("new_bench", 0, &bench);
     }
 
-    /// Adds the rows that the model took so far to those of the run.
+    /// Adds the rows that the model took so far, and those of responses that passed, to those of the run.
     pub fn take_rows(&mut self) {
-        for (count, taken) in self.rows.iter_mut().zip(&mut self.model.rows) {
+        let counts = self.rows.iter_mut().chain(self.passed.as_flattened_mut());
+        let taken = self.model.rows.iter_mut().chain(self.model.passed.as_flattened_mut());
+        for (count, taken) in counts.zip(taken) {
             *count += std::mem::take(taken);
         }
     }

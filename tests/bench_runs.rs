@@ -121,9 +121,10 @@ impl Runs<'_> {
         self.pair.clock(self.port, self.at, &safe_in, &safe_out)
     }
 
-    fn acknowledge(&mut self, on: bool) {
+    /// setSD_C and ChFAck_C.
+    fn operator(&mut self, signals: [bool; 2]) {
         let safe = self.safe(Direction::Response);
-        self.pair.operator(self.port, self.at, [false, on], &safe);
+        self.pair.operator(self.port, self.at, signals, &safe);
     }
 
     /// What is known of a taken call: the marks and the releases of both ends.
@@ -132,8 +133,12 @@ impl Runs<'_> {
         self.pair.compare(place, self.port, known, reply);
     }
 
+    fn total(&self) -> u32 {
+        library::bins(&self.pair.bench, self.port).total
+    }
+
     fn known_total(&mut self, place: &str, total: u32) {
-        let found = library::bins(&self.pair.bench, self.port).total;
+        let found = self.total();
         self.pair.compare(place, self.port, total, found);
     }
 
@@ -146,7 +151,9 @@ impl Runs<'_> {
         let before = self.pair.rows;
         self.start(4_294_967_294, W);
         self.start_up();
+        self.first_release();
         self.repeated();
+        self.safe_by_operator();
         self.damaged_response();
         self.damaged_request();
         self.silence();
@@ -158,16 +165,20 @@ impl Runs<'_> {
         }
     }
 
-    /// The FS-Device counts SDcycles down from 3 and releases with the fourth request; its fourth response lets the FS-Master
-    /// release. Each of the four is a sample.
+    /// The FS-Device counts SDcycles down from 3. Its responses pass and are no samples.
     fn start_up(&mut self) {
         for _ in 0..3 {
             let reply = self.exchange(2);
             self.known("start-up", [SAFE, SAFE], [false, false], reply);
         }
+        self.known_total("samples of the start-up", 0);
+    }
+
+    /// It releases with the fourth request; its fourth response lets the FS-Master release, and is a sample.
+    fn first_release(&mut self) {
         let reply = self.exchange(2);
         self.known("first release", [FRESH, GOES_ON], [true, true], reply);
-        self.known_total("samples of the start-up", 4);
+        self.known_total("sample of the first release", 1);
         let reply = self.tick(5);
         self.known("clock", [GOES_ON, GOES_ON], [true, true], reply);
     }
@@ -179,7 +190,7 @@ impl Runs<'_> {
         let response = self.response();
         let reply = self.to_master(&response);
         self.known("response", [FRESH, GOES_ON], [true, true], reply);
-        self.known_total("samples before the repeated one", 5);
+        self.known_total("samples before the repeated one", 2);
         self.wait(1);
         for spdu in [&response, &vec![0; response.len()]] {
             let reply = self.to_master(spdu);
@@ -189,7 +200,25 @@ impl Runs<'_> {
             let reply = self.to_device(spdu);
             self.known("repeated request", [GOES_ON, GOES_ON], [true, true], reply);
         }
-        self.known_total("samples after the repeated one", 5);
+        self.known_total("samples after the repeated one", 2);
+    }
+
+    /// While setSD_C is 1 responses pass and are no samples. Both ends return by themselves: the FS-Master in the first response
+    /// that finds it 0, the FS-Device with the request behind that.
+    fn safe_by_operator(&mut self) {
+        let total = self.total();
+        self.operator([true, false]);
+        for _ in 0..3 {
+            let releases = self.exchange(2).releases[0];
+            self.pair.compare("setSD_C", self.port, false, releases);
+        }
+        self.known_total("samples while setSD_C is 1", total);
+        self.operator([false, false]);
+        let reply = self.exchange(2);
+        self.known("setSD_C is 0 again", [FRESH, SAFE], [true, false], reply);
+        let reply = self.exchange(2);
+        self.known("both release again", [FRESH, GOES_ON], [true, true], reply);
+        self.known_total("samples after setSD_C", total + 2);
     }
 
     fn damaged_response(&mut self) {
@@ -233,21 +262,25 @@ impl Runs<'_> {
     /// "after a fault .. values return only once ChFAck_C followed ChFAckReq_S". With the acknowledgement the FS-Master
     /// releases; the FS-Device sees setSD until the request after it.
     fn acknowledged(&mut self) {
+        let total = self.total();
         for _ in 0..10 {
             let releases = self.exchange(2).releases[0];
             self.pair.compare("no acknowledgement", self.port, false, releases);
         }
-        self.acknowledge(true);
+        self.known_total("samples before the acknowledgement", total);
+        self.operator([false, true]);
         let reply = self.exchange(2);
         self.known("acknowledged", [FRESH, SAFE], [true, false], reply);
+        self.known_total("sample of the acknowledgement", total + 1);
         let reply = self.exchange(2);
         self.known("both release", [FRESH, GOES_ON], [true, true], reply);
-        self.acknowledge(false);
+        self.operator([false, false]);
     }
 
     /// 01, "Numbers to try": samples 1 and 2 have mean 1.5.
     fn two_samples(&mut self) {
-        self.start(4_294_967_295, W);
+        self.start(4_294_967_290, W);
+        self.start_up();
         self.pair.trend(self.port);
         self.exchange(1);
         self.exchange(2);
@@ -309,6 +342,7 @@ impl Runs<'_> {
     /// block clears them.
     fn into_the_limit(&mut self, short: u64) {
         self.start(7, W);
+        self.start_up();
         let earlier = self.earlier(LIMIT - short);
         let (lowest, highest) = earlier.ends.unwrap();
         let total = (LIMIT - short) as u32;

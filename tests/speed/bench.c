@@ -336,9 +336,10 @@ static uint8_t take_response(port_t *p, uint32_t at, const uint8_t *spdu)
     m->carried = count;
     m->awaited = awaited;
     bool passes = r.signature && r.port && expected;
-    if (passes && !old)
-        tally(p, at - m->start);
+    uint32_t t = at - m->start;
     act_on_response(m, !passes || r.control & 3, r.control & 4, at);
+    if (m->released)
+        tally(p, t);
     return mark(true, m->released);
 }
 

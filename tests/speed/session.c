@@ -18,12 +18,12 @@ enum { HEAD = 9, BLOCK = 48, READ = 1 << 16, LONGEST = HEAD + 255 };
 // A port and its FS-Master (000 Table 38), at rest in state 2, 5 or 7.
 struct port {
     bool running, runs, previous;
-    bool ChFAck_C, ChFAck_C_e;
+    bool setSD_C, ChFAck_C, ChFAck_C_e;
     uint8_t mode, length, state, MCount, carried, awaited;
     uint16_t w, lowest, highest;
     uint32_t MTimer, start, total;
 #ifdef WHOLE_PORT
-    bool setSD, SDset_S, ChFAckReq, ChFAckReq_S, setSD_C, released;
+    bool setSD, SDset_S, ChFAckReq, ChFAckReq_S, released;
     uint32_t bins[32];
     uint64_t sum;
 #endif
@@ -188,16 +188,17 @@ static void take_response(struct port *p, uint8_t port, uint32_t at, const uint8
     p->carried = count;
     p->awaited = awaited;
     bool passes = expected && spdu[contents - 2] == port && signature_holds(p, spdu, contents);
-    if (passes && !old)
-        tally(p, at - p->start);
     bool faults = !passes || status & 3;
+    bool acknowledged = p->state != 7 || (p->ChFAck_C && p->ChFAck_C_e);
+    if (!faults && acknowledged && !(status & 4) && !p->setSD_C)
+        tally(p, at - p->start);
     if (p->state != 7) {
         signal(p, !faults, status & 4, -1);
         p->state = faults ? 7 : 5;
     } else if (faults) {
         signal(p, false, true, 0);
         p->ChFAck_C_e = false;
-    } else if (p->ChFAck_C && p->ChFAck_C_e) {
+    } else if (acknowledged) {
         signal(p, true, status & 4, 0);
         p->ChFAck_C_e = false;
         p->state = 5;
@@ -224,10 +225,8 @@ static int happening(uint8_t kind, uint8_t port, uint32_t at, const uint8_t *oct
     if (kind == SPDU)
         take_response(p, port, at, octets);
     if (kind == OPERATOR) {
-        p->ChFAck_C = octets[0] & 2;
-#ifdef WHOLE_PORT
         p->setSD_C = octets[0] & 1;
-#endif
+        p->ChFAck_C = octets[0] & 2;
     }
     return TAKEN;
 }

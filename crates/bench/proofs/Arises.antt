@@ -30,7 +30,7 @@ use Rattle.fs_master.specs.Table38 as table38
 use Rattle.fs_master.specs.Calls as masters
 use Rattle.fs_master.specs.Regular as regularMasters
 use Rattle.fs_master.specs.History as masterSpecs
-use Rattle.fs_master.specs.History.{masterAfter, watchedIn, passesBy, lastAdmitted, isOldAfter, previousBy, hasPassed, signals, HasSignals, admittedBy, faultyBy, None, Open, answeredBy, fault}
+use Rattle.fs_master.specs.History.{masterAfter, watchedIn, passesBy, hasPassed, signals, signalsAfter, HasSignals, admittedBy, faultyBy, None, Open, answeredBy, fault}
 use Rattle.fs_device.specs.Table40 as table40
 use Rattle.fs_device.specs.Calls as devices
 use Rattle.fs_device.specs.History as deviceSpecs
@@ -39,7 +39,7 @@ use Rattle.histogram.specs.Samples.{binCount, inBin, limit, sumOf, lowestOf, hi
 use Rattle.histogram.specs.Counted as counted
 use Rattle.histogram.specs.Trends.{Shows, zero}
 use Rattle.samples.specs.Tallied.{talliedBy}
-use Rattle.samples.specs.Samples.{oldBy, sentSince, passedForCount, timeOf, isSample, samples}
+use Rattle.samples.specs.Samples.{releasesBy, sentSince, passedForCount, timeOf, isSample, samples}
 use Rattle.bench.specs.declared.Port.{Port}
 use Rattle.bench.specs.Methods.{Method, annexD}
 use Rattle.bench.specs.Ports.{newPort, acceptedPort, newBench, noPort, portAt, withPort, turnOf, stored, said, stepOf, silent, firstLive}
@@ -145,7 +145,7 @@ record Asked : Type 0 where
   has-responded : port .live .device .responded ≡ true
 
 asked : Asked
-unfolding hadErrorOrTimeout hadError hadTimeout deviceAfter samples isSample timeOf sentSince passedForCount oldBy isOldAfter lastAdmitted previousBy masterAfter watchedIn passesBy sinceBlock extended goesOn addressed resultOf historyBy calls.placed calls.asked calls.askedByBlock calls.done portAt withPort newBench newPort noPort acceptedPort turnOf stored said stepOf talliedBy silent signing.signature signing.octet signing.shiftInAll signing.shiftIn elapsedOf table38.watchdogRow table38.isOld table38.isAdmitted table38.checked table38.from8 table38.arrivalRow table38.admitted table38.startFrom table38.t4 table38.acted masters.watched masters.quiet masters.arrived masters.received masters.clocked masters.stepOf table40.watchdogRow table40.isAdmitted table40.checked table40.arrivalRow table40.admitted table40.t22 table40.t25 table40.t28 table40.t29 table40.acted devices.watched devices.quiet devices.arrived devices.received devices.clocked devices.stepOf counted.frozenOf counted.withSample counted.countedOf counted.totalledOf
+unfolding hadErrorOrTimeout hadError hadTimeout deviceAfter samples isSample timeOf sentSince passedForCount releasesBy signals signalsAfter masterAfter watchedIn passesBy sinceBlock extended goesOn addressed resultOf historyBy calls.placed calls.asked calls.askedByBlock calls.done portAt withPort newBench newPort noPort acceptedPort turnOf stored said stepOf talliedBy silent signing.signature signing.octet signing.shiftInAll signing.shiftIn elapsedOf table38.watchdogRow table38.isOld table38.isAdmitted table38.checked table38.from8 table38.arrivalRow table38.admitted table38.startFrom table38.t4 table38.acted masters.watched masters.quiet masters.arrived masters.received masters.clocked masters.stepOf table40.watchdogRow table40.isAdmitted table40.checked table40.arrivalRow table40.admitted table40.t22 table40.t25 table40.t28 table40.t29 table40.acted devices.watched devices.quiet devices.arrived devices.received devices.clocked devices.stepOf counted.frozenOf counted.withSample counted.countedOf counted.totalledOf
 asked = record {
   block = refl;
   runs = refl;

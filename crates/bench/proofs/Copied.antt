@@ -11,13 +11,14 @@ use Rattle.answer.specs.declared.Answer.{Answer}
 use Rattle.answer.specs.declared.Answer.the-variants.{Taken, Buffer, SpduLength}
 use Rattle.answer.specs.Answers.{isTaken}
 use Rattle.answer.specs.Rules.{refused, answerBy}
+use Rattle.scl.specs.Happenings.{isFresh}
 use Rattle.scl.specs.declared.Mark.{Mark}
 use Rattle.bench.specs.declared.Port.{Port}
 use Rattle.bench.specs.declared.End.{End}
 use Rattle.bench.specs.declared.Handed.{Handed}
 use Rattle.bench.specs.Methods.{annexD}
 use Rattle.bench.specs.Calls.{callRules}
-use Rattle.bench.specs.Handing.{isFresh, lengthAt, lentRules, partAt, safeHoldsAt, handedTo, handedOut}
+use Rattle.bench.specs.Handing.{lengthAt, lentRules, partAt, safeHoldsAt, handedTo, handedOut}
 use Rattle.bench.proofs.Taken.{taken-is}
 
 -- how many octets are told, and what stands in the buffer later

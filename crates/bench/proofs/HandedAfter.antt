@@ -12,7 +12,7 @@ use Rattle.answer.specs.Answers.{isTaken}
 use Rattle.answer.specs.Rules.{Kept, answerBy}
 use Rattle.answer.proofs.Exact.{taken-exactly}
 use Rattle.ranges.specs.Fields.{outside}
-use Rattle.scl.specs.Happenings.{markOf}
+use Rattle.scl.specs.Happenings.{markOf, isFresh}
 use Rattle.scl.proofs.Cases.{no, and-left, and-right}
 use Rattle.scl.specs.declared.Mark.{Mark}
 use Rattle.scl.specs.declared.Mark.the-variants.{Fresh, GoesOn, Safe, Nothing}
@@ -37,7 +37,7 @@ use Rattle.bench.specs.declared.Reply.{Reply}
 use Rattle.bench.specs.Methods.{annexD}
 use Rattle.bench.specs.Ports.{PortAfter, portAt, turnOf, stored, said, stepOf}
 use Rattle.bench.specs.Calls as calls
-use Rattle.bench.specs.Handing.{isFresh, lengthAt, safeHoldsAt, releasesAt, isLastAt, unlessSafe, allowedMark, partAt, handRules, handedTo, handedOut}
+use Rattle.bench.specs.Handing.{lengthAt, safeHoldsAt, releasesAt, isLastAt, unlessSafe, allowedMark, partAt, handRules, handedTo, handedOut}
 use Rattle.bench.specs.History.{handsOn, octetsIn, octetsOut, responseAdmitted, requestAdmitted}
 use Rattle.bench.proofs.Index.{placed-same}
 use Rattle.bench.proofs.HandedOn as handing

@@ -48,7 +48,7 @@ module _ (p : Port) (at : ℕ) (params : Params) (past : List Happening) (s : Ma
   unfolding stepOf stored said turnOf histogramAfter
   histogram-is =
       let m = masterTurnOf (p .live .master) (p .setting .params .«FSP_WatchdogTime») h in
-      sym (tallied-parts (p .live .totals) (p .bins) (p .setting .params .«FSP_WatchdogTime») (m .«passes_anew») (m .t))
+      sym (tallied-parts (p .live .totals) (p .bins) (p .setting .params .«FSP_WatchdogTime») (m .releases) (m .t))
       ∙ ap (λ (k : Histogram). stepped k (p .live .master) (p .setting .params .«FSP_WatchdogTime») h) (s .histogram)
       ∙ ap₂ (λ (m : Master) (w : ℕ). stepped (histogramAfter at (params .«FSP_WatchdogTime») past) m w h) (s .master) watchdog-is
 

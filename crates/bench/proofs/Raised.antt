@@ -16,17 +16,17 @@ use Rattle.bench.specs.declared.Live.{Live}
 use Rattle.bench.specs.declared.Turned.{Turned}
 use Rattle.bench.specs.Ports.{turnOf}
 
-in-time : (a : Totals) (w : ℕ) (anew : Bool) (t : ℕ) → talliedBy a w anew t .counted ≡ true → leb t w ≡ true
+in-time : (a : Totals) (w : ℕ) (releases : Bool) (t : ℕ) → talliedBy a w releases t .counted ≡ true → leb t w ≡ true
 unfolding talliedBy
-in-time a w anew t =
-    cond-case (λ (c : Sampled). c .counted ≡ true → leb t w ≡ true) (anew && leb t w) (λ e _. and-right anew (leb t w) e) (λ _ e. no (cc))
+in-time a w releases t =
+    cond-case (λ (c : Sampled). c .counted ≡ true → leb t w ≡ true) (releases && leb t w) (λ e _. and-right releases (leb t w) e) (λ _ e. no (cc))
 
 raised-below : (s : Setting) (l : Live) (h : Happening) → turnOf s l h .counts ≡ true → turnOf s l h .bin < binCount
 unfolding turnOf
 raised-below s l h e =
     let w = s .params .«FSP_WatchdogTime» in
     let m = masterTurnOf (l .master) w h in
-    bin-below w (m .t) (leb-true (m .t) w (in-time (l .totals) w (m .«passes_anew») (m .t) e))
+    bin-below w (m .t) (leb-true (m .t) w (in-time (l .totals) w (m .releases) (m .t) e))
 
 pub below : (s : Setting) (l : Live) (h : Happening) {t : Turned} → t ≡ turnOf s l h → t .counts ≡ true → t .bin < binCount
 below s l h {t} e counts = rw e (raised-below s l h (ap (λ (t : Turned). t .counts) (sym e) ∙ counts))

@@ -11,6 +11,7 @@ use Rattle.answer.specs.Answers.{isTaken}
 use Rattle.answer.specs.Rules.{refused, answerBy}
 use Rattle.ranges.specs.Fields.{outside}
 use Rattle.block.specs.declared.Params.{Params}
+use Rattle.scl.specs.Happenings.{isFresh}
 use Rattle.scl.specs.declared.Happening.{Happening}
 use Rattle.scl.proofs.Cases.{cond-both, no}
 use Rattle.fs_master.specs.History.{masterAfter}
@@ -23,10 +24,11 @@ use Rattle.histogram.specs.Trends as trends
 use Rattle.histogram.specs.Trends.{zero}
 use Rattle.histogram.proofs.Counting.{frozen-mark}
 use Rattle.histogram.proofs.Trends as trendProofs
-use Rattle.samples.specs.Samples.{samples}
+use Rattle.samples.specs.Samples.{timeOf, isSample, samples}
+use Rattle.samples.proofs.Samples.{sample-is}
 use Rattle.bench.specs.declared.Port.{Port}
 use Rattle.bench.specs.declared.Bins.{Bins}
-use Rattle.bench.specs.Ports.{newPort, histogramOf}
+use Rattle.bench.specs.Ports.{newPort, histogramOf, turnOf, stored, said, stepOf}
 use Rattle.bench.specs.Calls.{callRules}
 use Rattle.bench.specs.Shown.{seen, trendOf, binsOf, masterOf, deviceOf}
 use Rattle.bench.specs.History.{MatchesSince}
@@ -63,6 +65,12 @@ module _ (q : ℕ) (known : outside 1 8 q ≡ false) (p : Port) (at : ℕ) (para
   shows : seen q p ≡ p
   unfolding seen
   shows = simp (known, s .running)
+
+  -- What comes next is a sample exactly where its call hands on fresh octets and t is at most W (02, item 2).
+  pub sampled : (h : Happening) → let w = params .«FSP_WatchdogTime» in
+      isSample at w past h ≡ (isFresh (stepOf p h .reply .master) && leb (timeOf at w past h) w)
+  unfolding stepOf stored said turnOf
+  sampled h = rw (s .master, s .parameters) (sample-is at (params .«FSP_WatchdogTime») past h)
 
   -- each bin has as many of the samples, up to the freeze, as have it: "t * 32 / (W + 1), rounded down"
   pub bins-shown : (i : ℕ) → i < binCount

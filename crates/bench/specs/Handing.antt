@@ -1,7 +1,7 @@
 -- What a call handed on, at one end of a port (R26): by the mark of the call's reply, from the bench that the call returned and what was lent to the
 -- call. None of these is believed (docs/DECISIONS.md). An SPDU is read by a method of signing. Assumes nothing.
 use Prim.Native.Nat.{ℕ}
-use mathlib.Core.Bool.{Bool, true, false, cond, not, _&&_}
+use mathlib.Core.Bool.{Bool, cond, not, _&&_}
 use mathlib.Core.List.{List, [], _∷_, _++_}
 use lib.Dec.{eqb, leb}
 use lib.ListN.{length, drop}
@@ -9,6 +9,7 @@ use Rattle.answer.specs.declared.Answer.the-variants.{Taken, Buffer, SpduLength
 use Rattle.answer.specs.Answers.{isTaken}
 use Rattle.answer.specs.Rules.{Rule, rule, answerBy}
 use Rattle.block.specs.declared.Params.{Params}
+use Rattle.scl.specs.Happenings.{isFresh}
 use Rattle.scl.specs.declared.Mark.{Mark}
 use Rattle.scl.specs.declared.Mark.the-variants.{Fresh, GoesOn, Safe, Nothing}
 use Rattle.spdu.specs.Fields.{responseBy, requestBy}
@@ -59,12 +60,6 @@ allowedMark m e p Nothing spdu = Nothing
 
 abbrev pub partAt : Method → End → Port → Mark → List ℕ → List ℕ → List ℕ
 partAt m e p mark spdu safe = image.handedOn (allowedMark m e p mark spdu) (p .setting .params .«FSP_ProtMode») spdu safe
-
-abbrev pub isFresh : Mark → Bool
-isFresh Fresh = true
-isFresh GoesOn = false
-isFresh Safe = false
-isFresh Nothing = false
 
 -- 8 and 9; 10 for an SPDU of n octets that process octets are asked of, where another length is configured; 7 where what is lent does not hold
 abbrev pub lentRules : ℕ → Port → End → Mark → ℕ → Bool → List Rule

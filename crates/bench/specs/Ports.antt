@@ -119,7 +119,7 @@ turnOf s l h =
     let w = s .params .«FSP_WatchdogTime» in
     let m = masterTurnOf (l .master) w h in
     let d = devices.stepOf (l .device) w h in
-    let c = talliedBy (l .totals) w (m .«passes_anew») (m .t) in
+    let c = talliedBy (l .totals) w (m .releases) (m .t) in
     record {
       live = record { totals = c .totals; device = d .device; master = m .master; unused = l .unused };
       counts = c .counted;

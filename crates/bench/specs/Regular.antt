@@ -8,11 +8,13 @@ use Rattle.scl.specs.declared.Mark.the-variants.{Nothing}
 use Rattle.scl.specs.declared.Response.{Response}
 use Rattle.scl.specs.declared.Happening.{Happening}
 use Rattle.scl.specs.declared.Happening.the-variants as happening
+use Rattle.fs_master.specs.declared.Row.the-variants.{T4}
 use Rattle.fs_master.specs.Table38.{admitted, t4}
 use Rattle.fs_master.specs.Regular as masters
 use Rattle.fs_device.specs.Calls as devices
 use Rattle.histogram.specs.Samples.{binOf}
 use Rattle.samples.specs.Tallied.{talliedBy}
+use Rattle.samples.specs.Samples.{usesPDin}
 use Rattle.bench.specs.declared.Setting.{Setting}
 use Rattle.bench.specs.declared.Live.{Live}
 use Rattle.bench.specs.declared.Turned.{Turned}
@@ -24,7 +26,10 @@ elapsedAt l at = elapsedOf at (l .master .start)
 abbrev pub isRegularResponse : Setting → Live → ℕ → Response → Bool
 isRegularResponse s l at f =
     let w = s .params .«FSP_WatchdogTime» in
-    masters.isRegular (l .master) w at f && devices.unchanged (l .device) w (happening.Response at f) && talliedBy (l .totals) w true (elapsedAt l at) .counted
+    masters.isRegular (l .master) w at f
+    && devices.unchanged (l .device) w (happening.Response at f)
+    && usesPDin T4 (f .SDset) (l .master .«setSD_C»)
+    && talliedBy (l .totals) w true (elapsedAt l at) .counted
 
 unfoldable pub isRegular : Setting → Live → Happening → Bool
 isRegular s l (happening.Response at f) = isRegularResponse s l at f

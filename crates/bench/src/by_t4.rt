@@ -16,8 +16,9 @@ fn is_regular_response(setting: Setting, live: Live, at: u32, f: Response) -> bo
     let w = setting.params.FSP_WatchdogTime;
     let m = live.master;
     let unchanged = fs_device::unchanged(live.device, w, Happening::Response(at, f));
+    let releases = !(f.SDset | m.setSD_C);
     let counts = samples::counts(live.totals, w, scl::elapsed(at, m.start));
-    fs_master::is_regular(m, w, at, f) & unchanged & counts
+    fs_master::is_regular(m, w, at, f) & unchanged & releases & counts
 }
 
 // Whether a happening makes such a turn.

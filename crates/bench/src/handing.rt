@@ -19,17 +19,6 @@ use block::Params;
 use scl::Mark;
 use signature::Engine;
 
-fn is_fresh(mark: Mark) -> bool
-    ensures { λ r. ⌜ r ≡ handing.isFresh mark ⌝ }
-{
-    match mark {
-        Mark::Fresh => true,
-        Mark::GoesOn => false,
-        Mark::Safe => false,
-        Mark::Nothing => false,
-    }
-}
-
 // The length of the SPDUs that an end receives.
 fn length_at(end: End, params: Params) -> u8
     ensures { λ r. ⌜ r ≡ handing.lengthAt end params ⌝ }
@@ -96,7 +85,7 @@ fn lent_answer(port: u8, p: Port, end: End, mark: Mark, length: usize, holds: bo
 {
     let other_length = length != length_at(end, p.setting.params) as usize;
     let a = port_answer(port, p.setting);
-    let a = refuse(a, is_fresh(mark) & other_length, Answer::SpduLength);
+    let a = refuse(a, scl::is_fresh(mark) & other_length, Answer::SpduLength);
     refuse(a, !holds, Answer::Buffer)
 }
 

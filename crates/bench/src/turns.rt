@@ -49,7 +49,7 @@ pub fn turn(setting: Setting, live: Live, happening: Happening) -> Turned
     let w = setting.params.FSP_WatchdogTime;
     let of_master = turn_master(live.master, w, happening);
     let stepped = fs_device::step(live.device, w, happening);
-    let counted = tallied(live.totals, w, of_master.passes_anew, of_master.t);
+    let counted = tallied(live.totals, w, of_master.releases, of_master.t);
     let totals = counted.totals;
     let device = stepped.device;
     let master = of_master.master;

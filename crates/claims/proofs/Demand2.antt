@@ -12,6 +12,7 @@ use Rattle.fs_master.specs.History as masters
 use Rattle.fs_master.proofs.Watchdog as masterWatchdog
 use Rattle.fs_device.specs.History as devices
 use Rattle.fs_device.proofs.Watchdog as deviceWatchdog
+use Rattle.samples.proofs.Samples as samples
 use Rattle.bench.specs.declared.Port.{Port}
 use Rattle.bench.specs.Ports.{newPort, portAt}
 use Rattle.bench.specs.History.{Call, history, never, since, sinceBlock, Matches}
@@ -44,6 +45,9 @@ module _ (q : ℕ) (known : outside 1 8 q ≡ false) (calls : List Call) where
         cycles-first = release.cycles-first q known calls at params past block;
         master-in-time = λ h earlier latest small e. master-in-time at w past h earlier latest small (rw (s .master) at e);
         device-in-time = λ h earlier latest small e. device-in-time at w past h earlier latest small (rw (s .device) at e);
+        sampled = showing.sampled q known p at params past s;
+        sampled-since = samples.sample-since at w past;
+        sampled-acknowledged = samples.sample-acknowledged at w past;
         at-most-w = s .within;
         bins = showing.bins-shown q known p at params past s;
         total = showing.total-shown q known p at params past s;

@@ -1,13 +1,13 @@
 -- Demand 2: "SPDUs and both state machines are exactly those of the IO-Link Safety specification (000); process values appear only where its tables
--- release them, else safe values; each port's bins hold exactly the responses that 01 counts since its last accepted block, up to the freeze."
--- Assumes nothing.
+-- release them, else safe values; each port's bins hold exactly the responses that 01 counts since its last accepted block, up to the freeze." It reads
+-- with 02, item 2: "a sample counts only if the machine releases process values at that step". Assumes nothing.
 --
 -- "Exactly those of 000" is read in two files, row for row: fs_master specs/Table38.antt and fs_device specs/Table40.antt; the octets of an SPDU in spdu
 -- specs/Places.antt, Built.antt and Signature.antt. Each function's contract is an equation with these. That the definitions copy 000 is for a reader to
 -- compare; docs/DEFINITIONS.md has what holds each of them besides.
 use Prim.Native.Nat.{ℕ, _<_, _≤_, _^_}
 use mathlib.Core.Path.{_≡_}
-use mathlib.Core.Bool.{Bool, true, false, cond}
+use mathlib.Core.Bool.{Bool, true, false, cond, _&&_}
 use mathlib.Core.List.{List, [], _∷_}
 use lib.Dec.{leb}
 use lib.ListN.{length, take, getD, replicate}
@@ -22,14 +22,14 @@ use Rattle.spdu.specs.Fields.{responseBy, requestBy}
 use Rattle.spdu.specs.Image as image
 use Rattle.spdu.specs.RoundTrip.{requestBack, responseBack, zerosBack}
 use Rattle.scl.specs.Time.{elapsedOf}
-use Rattle.scl.specs.Happenings.{readingOf}
+use Rattle.scl.specs.Happenings.{readingOf, isFresh}
 use Rattle.scl.specs.declared.Happening.{Happening}
 use Rattle.scl.specs.declared.Mark.the-variants.{Fresh}
 use Rattle.fs_master.specs.History as masters
 use Rattle.fs_device.specs.History as devices
 use Rattle.histogram.specs.Samples.{binCount, Within, inBin, limit, sumOf, lowestOf, highestOf}
 use Rattle.histogram.specs.Trends.{Shows}
-use Rattle.samples.specs.Samples.{samples}
+use Rattle.samples.specs.Samples.{timeOf, isSample, samples}
 use Rattle.bench.specs.declared.Port.{Port}
 use Rattle.bench.specs.Methods.{annexD}
 use Rattle.bench.specs.Ports.{newPort, portAt, stepOf}
@@ -60,6 +60,16 @@ pub record PortHolds (q : ℕ) (p : Port) (at : ℕ) (params : Params) (past : L
       → elapsedOf (readingOf h) (masters.lastAdmittedAt at (params .«FSP_WatchdogTime») past) ≤ params .«FSP_WatchdogTime»
   pub device-in-time : (h : Happening) (earlier : List Happening) → past ≡ h ∷ earlier → readingOf h < 2 ^ 32 → p .live .device .released ≡ true
       → elapsedOf (readingOf h) (devices.lastAdmittedAt at (params .«FSP_WatchdogTime») past) ≤ params .«FSP_WatchdogTime»
+  -- "a sample counts only if the machine releases process values at that step": what comes next is one exactly where its call hands on fresh octets and
+  -- t is at most W;
+  pub sampled : (h : Happening) → let w = params .«FSP_WatchdogTime» in
+      isSample at w past h ≡ (isFresh (stepOf p h .reply .master) && leb (timeOf at w past h) w)
+  -- t then is the time since the last response that was admitted, or since the block;
+  pub sampled-since : (h : Happening) → isSample at (params .«FSP_WatchdogTime») past h ≡ true
+      → timeOf at (params .«FSP_WatchdogTime») past h ≡ elapsedOf (readingOf h) (masters.lastAdmittedAt at (params .«FSP_WatchdogTime») past)
+  -- and no fault is open: a port that is late has no sample until it is acknowledged
+  pub sampled-acknowledged : (h : Happening) → isSample at (params .«FSP_WatchdogTime») past h ≡ true
+      → masters.fault at (params .«FSP_WatchdogTime») (h ∷ past) ≡ masters.None
   -- 01: a sample's "elapsed t at most W"
   pub at-most-w : Within (params .«FSP_WatchdogTime») (samples at (params .«FSP_WatchdogTime») past)
   -- "bins hold exactly the responses that 01 counts since its last accepted block": bin i has as many as there are samples of bin i

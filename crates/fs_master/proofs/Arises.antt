@@ -28,6 +28,7 @@ use Rattle.fs_master.specs.History.{FreshBy, Held, masterAfter, watchedI
 use Rattle.fs_master.specs.Regular.{isRegular}
 use Rattle.fs_master.proofs.Rows as rows
 use Rattle.fs_master.proofs.Release as release
+use Rattle.fs_master.proofs.Fresh as fresh
 use Rattle.fs_master.proofs.Acknowledge as acknowledge
 use Rattle.fs_master.proofs.Watchdog as watchdog
 use Rattle.fs_master.proofs.Counts as counts
@@ -192,6 +193,9 @@ pub record Met : Type 0 where
   fresh-if : stepOf (after 1) 100 releasing .mark ≡ Fresh
   fresh-if-again : stepOf (after 9) 100 releasingAgain .mark ≡ Fresh
   release-begins : (stepOf (after 9) 100 releasingAgain .mark ≡ Fresh) ⊎ (after 9 .released ≡ true)
+  fresh-releases : after 10 .released ≡ true
+  fresh-not-old : isOldAfter (lastAdmitted 0 100 (first 9)) (good 6) ≡ false
+  fresh-since : stepOf (after 9) 100 releasingAgain .sent ≡ lastAdmittedAt 0 100 (first 9)
   admitted-in-2 : isAdmitted (watchedIn 0 100 (first 1) releasing) (good 7) ≡ true
   admitted-in-5 : isAdmitted (watchedIn 0 100 (first 3) (happening.Clock 30)) (good 7) ≡ false
   admitted-in-7 : isAdmitted (watchedIn 0 100 (first 17) (happening.Clock 410)) (good 1) ≡ false
@@ -241,6 +245,9 @@ premises-met = record {
       release.fresh-if (after 9) 100 330 (good 6)
       (record { admitted = refl; signature = refl; port = refl; count = refl; no-error = refl; no-timeout = refl; not-set = refl; not-asked = refl; acknowledged = λ _. refl });
   release-begins = release.release-begins (after 9) 100 releasingAgain refl;
+  fresh-releases = release.fresh-releases (after 9) 100 releasingAgain refl;
+  fresh-not-old = fresh.fresh-not-old 0 100 (first 9) 330 (good 6) refl;
+  fresh-since = fresh.fresh-since 0 100 (first 9) releasingAgain refl;
   admitted-in-2 = admitting.admitted-in-2 0 100 (first 1) releasing (good 7) refl;
   admitted-in-5 = admitting.admitted-in-5 0 100 (first 3) (happening.Clock 30) (good 7) refl;
   admitted-in-7 = admitting.admitted-in-7 0 100 (first 17) (happening.Clock 410) (good 1) refl;

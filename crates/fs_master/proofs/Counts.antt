@@ -1,7 +1,7 @@
 -- The count that the FS-Master sends, and what always holds of its variables. Assumes nothing.
 use Prim.Native.Nat.{ℕ, _+_, _%_, _≤_}
 use native.Mathlib.Omega.{arith}
-use borrow.Author.Tests.{eqb-true, eqb-false}
+use borrow.Author.Tests.{eqb-true, eqb-false, ne-eqb}
 use Rattle.scl.specs.Counts.{countAfter}
 use Rattle.scl.specs.Happenings.{isFailure}
 use Rattle.scl.proofs.Cases.{cond-case, no, or-second}
@@ -83,11 +83,14 @@ pub count-below : (m : Master) (w : ℕ) (h : Happening) → m .MCount ≤ 7 →
 count-below m w h b =
     rw (count-by m w h) (by-below (stepOf m w h .arrival) (countBy (stepOf m w h .watchdog) (m .MCount)) (by-below (stepOf m w h .watchdog) (m .MCount) b))
 
-another : (n : ℕ) → countAfter n ≡ n → ⊥
+pub another : (n : ℕ) → countAfter n ≡ n → ⊥
 another n =
     cond-case (λ (k : ℕ). k ≡ n → ⊥) (eqb (n % 8 + 1) 8)
     (λ e k. omega (arith, eqb-true (n % 8 + 1) 8 e))
     (λ e k. omega arith)
+
+pub never-0 : (n : ℕ) → eqb (countAfter n) 0 ≡ false
+never-0 n = ne-eqb (countAfter n) 0 (cond-case (λ (k : ℕ). k ≡ 0 → ⊥) (eqb (n % 8 + 1) 8) (λ _ k. omega (arith, k)) (λ _ k. omega (arith, k)))
 
 arrival-count : (m : Master) (faults : Bool) (n : ℕ) → countBy (arrivalRow m faults) n ≡ countAfter n
 unfolding countBy

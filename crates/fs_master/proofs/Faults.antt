@@ -1,7 +1,7 @@
 -- What the FS-Master makes of responses with FAULTS, and of those that it does not admit. Assumes nothing.
 use Prim.Native.Nat.{ℕ}
 use mathlib.Core.Path.{_≡_, refl, sym, _∙_}
-use mathlib.Core.Bool.{true, false}
+use mathlib.Core.Bool.{Bool, true, false}
 use Rattle.scl.specs.Happenings.{isFailure}
 use Rattle.scl.specs.declared.Happening.the-variants as happening
 use Rattle.scl.specs.declared.Mark.the-variants.{Safe}
@@ -47,3 +47,10 @@ discarded m w at f e = rw e
 pub all-zero : (m : Master) (f : Response) → f .«all_zero» ≡ true → isAdmitted m f ≡ false
 unfolding isAdmitted
 all-zero m f z = simp z
+
+pub not-all-zero : (m : Master) (f : Response) → isAdmitted m f ≡ true → f .«all_zero» ≡ false
+not-all-zero m f e = go (f .«all_zero») refl
+  where
+    go : (zero : Bool) → f .«all_zero» ≡ zero → zero ≡ false
+    go true z = no (sym e ∙ all-zero m f z)
+    go false z = refl

@@ -3,6 +3,7 @@ pub mod Release
 pub mod Counts
 pub mod Samples
 pub mod Admitted
+pub mod Fresh
 pub mod Regulars
 pub mod Signals
 pub mod Watchdog

@@ -11,6 +11,7 @@ use Rattle.scl.specs.declared.Check.the-variants as check
 use Rattle.scl.specs.declared.Response.{Response}
 use Rattle.scl.proofs.Cases.{and-left, and-right, or-left, or-right, no}
 use Rattle.fs_master.specs.declared.Master.{Master}
+use Rattle.fs_master.specs.declared.Outcome.{Outcome}
 use Rattle.fs_master.specs.declared.Row.the-variants.{Stay, T4}
 use Rattle.fs_master.specs.Table38.{watchdogRow, isOld, isExpected, isAdmitted, checked, arrivalRow, admitted, t4, acted}
 use Rattle.fs_master.specs.Calls.{watched, arrived, received, stepOf}
@@ -68,8 +69,20 @@ is-admitted m w at f a =
     simp (a .not-zero, a .count, a .not-old)
     (waits-case (λ (two five : Bool). (two && true || five && true || eqb (m .state) 7 && true) ≡ true) (eqb (m .state) 2) (eqb (m .state) 5) (a .waits) refl refl)
 
+abbrev pub regularOutcome : Master → ℕ → Response → Outcome
+regularOutcome m at f = record {
+  master = t4 (admitted m f) at (f .SDset);
+  watchdog = Stay;
+  arrival = T4;
+  check = check.None;
+  old = false;
+  passed = true;
+  sent = m .start;
+  mark = markOf true (t4 (admitted m f) at (f .SDset) .released);
+}
+
 -- A regular call has no row but T4, and what it makes of the master is that row's.
-pub regular-step : (m : Master) (w at : ℕ) (f : Response) → isRegular m w at f ≡ true → stepOf m w (happening.Response at f) ≡ record { master = t4 (admitted m f) at (f .SDset); watchdog = Stay; arrival = T4; check = check.None; old = false; passed = true; sent = m .start; mark = markOf true (t4 (admitted m f) at (f .SDset) .released) }
+pub regular-step : (m : Master) (w at : ℕ) (f : Response) → isRegular m w at f ≡ true → stepOf m w (happening.Response at f) ≡ regularOutcome m at f
 unfolding stepOf watched watchdogRow received arrived checked arrivalRow acted
 regular-step m w at f e =
     let a = asked m w at f e in

@@ -131,9 +131,21 @@ release-begins m w (happening.Request at q) e = inr (watched-released m w at e)
 release-begins m w (happening.Clock at) e = inr (watched-released m w at e)
 release-begins m w (happening.Operator at «setSD_C» «ChFAck_C») e = inr (watched-released m w at e)
 
+-- A call that hands on fresh octets leaves them released.
+pub fresh-releases : (m : Master) (w : ℕ) (h : Happening) → stepOf m w h .mark ≡ Fresh → stepOf m w h .master .released ≡ true
+unfolding stepOf clocked operated received arrived
+fresh-releases m w (happening.Response at f) =
+    let j = watched m w at in
+    cond-case (λ (o : Outcome). o .mark ≡ Fresh → o .master .released ≡ true) (isAdmitted j f) {x = arrived j (watchdogRow m w at) at f (checked j f)} {y = quiet j (watchdogRow m w at) (isOld j f)}
+    (λ _ e. fresh-released _ e)
+    (λ _ e. quiet-not j (watchdogRow m w at) (isOld j f) e)
+fresh-releases m w (happening.Request at q) = λ e. quiet-not (watched m w at) (watchdogRow m w at) false e
+fresh-releases m w (happening.Clock at) = λ e. quiet-not (watched m w at) (watchdogRow m w at) false e
+fresh-releases m w (happening.Operator at «setSD_C» «ChFAck_C») = λ e. quiet-not (signalled (watched m w at) «setSD_C» «ChFAck_C») (watchdogRow m w at) false e
+
 -- ---- 01: "no release between an accepted block and the first response that passes"
 
-fresh-passes : (m : Master) (w : ℕ) (h : Happening) → FreshBy m w h → passesBy (watched m w (readingOf h)) h ≡ true
+pub fresh-passes : (m : Master) (w : ℕ) (h : Happening) → FreshBy m w h → passesBy (watched m w (readingOf h)) h ≡ true
 unfolding FreshBy passesBy
 fresh-passes m w (happening.Response at f) c = let r = c .0 in simp (r .admitted, r .signature, r .port, r .count)
 fresh-passes m w (happening.Request at q) c = absurd c

@@ -108,14 +108,6 @@ passes-as m w (happening.Request at q) = refl
 passes-as m w (happening.Clock at) = refl
 passes-as m w (happening.Operator at «setSD_C» «ChFAck_C») = refl
 
-received-old : (m : Master) (r : Row) (at : ℕ) (f : Response) → received m r at f .old ≡ isOld m f
-unfolding received arrived quiet
-received-old m r at f = cond-case (λ (o : Outcome). o .old ≡ isOld m f) (isAdmitted m f) (λ _. refl) (λ _. refl)
-
-pub step-old : (m : Master) (w at : ℕ) (f : Response) → stepOf m w (happening.Response at f) .old ≡ isOld (watched m w at) f
-unfolding stepOf
-step-old m w at f = received-old (watched m w at) (watchdogRow m w at) at f
-
 -- ---- the previous SPDU
 
 -- kept of it: whether there was one, the DCount_i that it carried and the one awaited

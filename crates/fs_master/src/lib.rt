@@ -11,7 +11,7 @@ pub use table38::row_number;
 
 // 000's variables under their names, between two calls. `state` is 000's number: 2, 5 or 7. setSD_C and ChFAck_C are the operator signals as
 // they hold. Of the previous SPDU, if there was one: the DCount_i that it carried and the one awaited of it. MTimer is the reading of its last
-// restart, and `runs` says whether there was one; `sample` is the reading from which a sample's time runs. `released`: PDin is in use. Both counts
+// restart, and `runs` says whether there was one; `start` is the reading from which a sample's time runs. `released`: PDin is in use. Both counts
 // are u16, so that no octet of the struct is padding.
 #[repr(C)]
 pub struct Master {

@@ -1,17 +1,15 @@
 -- The histogram after what happened since a block holds exactly the samples. Assumes nothing.
 use Prim.Native.Nat.{ℕ, _≤_}
 use mathlib.Core.Path.{_≡_, refl, sym, ap, _∙_}
-use mathlib.Core.Bool.{Bool, true, false, cond, not, _&&_}
+use mathlib.Core.Bool.{Bool, true, false, cond, _&&_}
 use mathlib.Core.List.{List, [], _∷_, _++_, append-nil}
 use lib.Dec.{leb}
 use borrow.Author.Tests.{leb-true}
-use Rattle.scl.specs.Time.{elapsedOf}
-use Rattle.scl.specs.Happenings.{readingOf}
+use Rattle.scl.specs.Happenings.{isFresh}
 use Rattle.scl.specs.declared.Happening.{Happening}
 use Rattle.scl.proofs.Cases.{and-right}
 use Rattle.fs_master.specs.Calls as masters
 use Rattle.fs_master.specs.History.{masterAfter}
-use Rattle.fs_master.proofs.Samples.{stepOf-sent}
 use Rattle.histogram.specs.declared.Histogram.{Histogram}
 use Rattle.histogram.specs.declared.Totals.{Totals}
 use Rattle.histogram.specs.declared.Sampled.{Sampled}
@@ -20,14 +18,14 @@ use Rattle.histogram.specs.Counted.{withBins, raisedIf, countedOf, totalledOf}
 use Rattle.histogram.proofs.Counting.{cleared-holds, counted-holds}
 use Rattle.histogram.proofs.Parts.{counted-parts}
 use Rattle.histogram.proofs.Samples.{within-more}
-use Rattle.samples.specs.Tallied.{tallied, talliedBy, stepped}
+use Rattle.samples.specs.Tallied.{masterTurnOf, tallied, talliedBy, stepped}
 use Rattle.samples.specs.Samples.{timeOf, isSample, samples, histogramAfter}
-use Rattle.samples.proofs.Samples.{time-is, sample-is}
+use Rattle.samples.proofs.Samples.{time-by, sample-is}
 
 -- a response is tallied in a histogram as in its two parts, the totals and the bins
-pub tallied-parts : (a : Totals) (bins : List ℕ) (w : ℕ) (anew : Bool) (t : ℕ) → tallied (withBins a bins) w anew t ≡ withBins (talliedBy a w anew t .totals) (raisedIf (talliedBy a w anew t .counted) bins (binOf w t))
+pub tallied-parts : (a : Totals) (bins : List ℕ) (w : ℕ) (releases : Bool) (t : ℕ) → tallied (withBins a bins) w releases t ≡ withBins (talliedBy a w releases t .totals) (raisedIf (talliedBy a w releases t .counted) bins (binOf w t))
 unfolding tallied talliedBy
-tallied-parts a bins w anew t = go (anew && leb t w)
+tallied-parts a bins w releases t = go (releases && leb t w)
   where
     after : Bool → Sampled
     after b = cond b (totalledOf a t) (record { totals = a; counted = false })
@@ -41,14 +39,13 @@ module _ (at w : ℕ) (past : List Happening) (h : Happening) where
   pub counts : (k : Histogram) → stepped k (masterAfter at w past) w h ≡ cond (isSample at w past h) (countedOf k w (timeOf at w past h)) k
   unfolding tallied
   counts k =
-      let o = masters.stepOf (masterAfter at w past) w h in
-      ap (λ (t : ℕ). tallied k w (o .passed && not (o .old)) t) (ap (elapsedOf (readingOf h)) (stepOf-sent (masterAfter at w past) w h) ∙ time-is at w past h)
+      ap (λ (t : ℕ). tallied k w (masterTurnOf (masterAfter at w past) w h .releases) t) (sym (time-by at w past h))
       ∙ ap (λ (b : Bool). cond b (countedOf k w (timeOf at w past h)) k) (sym (sample-is at w past h))
 
   in-time : isSample at w past h ≡ true → timeOf at w past h ≤ w
   in-time e =
       let o = masters.stepOf (masterAfter at w past) w h in
-      leb-true (timeOf at w past h) w (and-right (o .passed && not (o .old)) (leb (timeOf at w past h) w) (sym (sample-is at w past h) ∙ e))
+      leb-true (timeOf at w past h) w (and-right (isFresh (o .mark)) (leb (timeOf at w past h) w) (sym (sample-is at w past h) ∙ e))
 
   one-within : Within w (samples at w past) → (b : Bool) → isSample at w past h ≡ b → Within w (samples at w past ++ cond b (timeOf at w past h ∷ []) [])
   one-within within true e = within-more (timeOf at w past h) within (in-time e)

@@ -1,11 +1,11 @@
 -- The wrap of the clock changes no sample and no histogram: all readings since a block delayed, and the block's. Assumes nothing.
 use Prim.Native.Nat.{ℕ, _<_, _^_}
 use mathlib.Core.Path.{_≡_, refl, sym, ap, ap₂, _∙_}
-use mathlib.Core.Bool.{Bool, cond, not, _&&_}
+use mathlib.Core.Bool.{Bool, cond, _&&_}
 use mathlib.Core.List.{List, [], _∷_, _++_}
 use lib.Dec.{leb}
 use Rattle.scl.specs.Time.{elapsedOf}
-use Rattle.scl.specs.Happenings.{readingOf}
+use Rattle.scl.specs.Happenings.{readingOf, isFresh}
 use Rattle.scl.specs.Delayed.{delayed, delayedHappening, delayedPast, OnClock, none, more}
 use Rattle.scl.specs.declared.Happening.{Happening}
 use Rattle.scl.specs.declared.Happening.the-variants as happening
@@ -13,12 +13,11 @@ use Rattle.scl.proofs.Time.{shifted}
 use Rattle.fs_master.specs.declared.Outcome.{Outcome}
 use Rattle.fs_master.specs.Calls.{stepOf}
 use Rattle.fs_master.specs.History.{masterAfter, delayedOutcome}
-use Rattle.fs_master.proofs.Samples.{stepOf-sent}
 use Rattle.fs_master.proofs.Delayed.{delayed-call, sent-fits}
 use Rattle.histogram.specs.declared.Histogram.{Histogram}
 use Rattle.histogram.specs.Counted.{countedOf}
 use Rattle.samples.specs.Samples.{timeOf, isSample, samples, histogramAfter}
-use Rattle.samples.proofs.Samples.{time-is, sample-is}
+use Rattle.samples.proofs.Samples.{time-by, sample-is}
 use Rattle.samples.proofs.Counted.{counts}
 
 delayed-reading : (k : ℕ) (h : Happening) → readingOf (delayedHappening k h) ≡ delayed k (readingOf h)
@@ -27,11 +26,6 @@ delayed-reading k (happening.Response at f) = refl
 delayed-reading k (happening.Request at q) = refl
 delayed-reading k (happening.Clock at) = refl
 delayed-reading k (happening.Operator at «setSD_C» «ChFAck_C») = refl
-
-module _ (at w : ℕ) (past : List Happening) (h : Happening) where
-  -- a response's time and whether it is a sample, by what its call says
-  time-by : timeOf at w past h ≡ elapsedOf (readingOf h) (stepOf (masterAfter at w past) w h .sent)
-  time-by = sym (ap (elapsedOf (readingOf h)) (stepOf-sent (masterAfter at w past) w h) ∙ time-is at w past h)
 
 module _ (k at w : ℕ) (fits : at < 2 ^ 32) where
   pub delayed-time : {past : List Happening} → OnClock past → (h : Happening) → readingOf h < 2 ^ 32
@@ -49,7 +43,7 @@ module _ (k at w : ℕ) (fits : at < 2 ^ 32) where
   unfolding delayedOutcome
   delayed-sample {past} rest h r =
       sample-is (delayed k at) w (delayedPast k past) (delayedHappening k h)
-      ∙ ap₂ (λ (o : Outcome) (t : ℕ). (o .passed && not (o .old)) && leb t w) (delayed-call k at w fits rest h r) (delayed-time rest h r)
+      ∙ ap₂ (λ (o : Outcome) (t : ℕ). isFresh (o .mark) && leb t w) (delayed-call k at w fits rest h r) (delayed-time rest h r)
       ∙ sym (sample-is at w past h)
 
   -- The samples since the block are the same,

@@ -1,4 +1,4 @@
-// Which responses are samples, and how long each took (document 01, "The histogram and the trend").
+// Which responses are samples, and how long each took (01, "The histogram and the trend"; 02, item 2).
 ghost use mathlib.Core.Path.{_≡_};
 ghost use mathlib.Core.Bool.{true};
 ghost use Rattle.samples.specs.Tallied as tally;
@@ -8,12 +8,12 @@ use histogram::Totals;
 use scl::Happening;
 use scl::Mark;
 
-// What a happening does at an FS-Master. `passes_anew`: a response has come that passes and is not old, t ms after the count that it answers was
-// first sent.
+// What a happening does at an FS-Master. `releases`: a response has come that led to a release, t ms after the count that it answers was first
+// sent.
 pub struct MasterTurn {
     pub master: Master,
     pub mark: Mark,
-    pub passes_anew: bool,
+    pub releases: bool,
     pub t: u32,
 }
 
@@ -27,16 +27,16 @@ pub fn turn_master(m: Master, w: u16, happening: Happening) -> MasterTurn
     MasterTurn {
         master,
         mark,
-        passes_anew: after.passed & !after.old,
+        releases: scl::is_fresh(mark),
         t: scl::elapsed(scl::reading(happening), after.sent),
     }
 }
 
-// The totals, with the time t of a response that passes anew where it is at most w.
-pub fn tallied(totals: Totals, w: u16, passes_anew: bool, t: u32) -> Sampled
-    ensures { λ r. ⌜ r ≡ tally.talliedBy totals w «passes_anew» t ⌝ }
+// The totals, with the time t of a response that led to a release where it is at most w.
+pub fn tallied(totals: Totals, w: u16, releases: bool, t: u32) -> Sampled
+    ensures { λ r. ⌜ r ≡ tally.talliedBy totals w releases t ⌝ }
 {
-    if passes_anew {
+    if releases {
         if t <= w as u32 {
             return histogram::totalled(totals, t as u16);
         }
@@ -47,7 +47,7 @@ pub fn tallied(totals: Totals, w: u16, passes_anew: bool, t: u32) -> Sampled
     }
 }
 
-// Whether the time t of a response that passes anew is counted.
+// Whether the time t of a response that led to a release is counted.
 pub fn counts(totals: Totals, w: u16, t: u32) -> bool
     ensures { λ r. ⌜ r ≡ tally.talliedBy totals w true t .counted ⌝ }
 {

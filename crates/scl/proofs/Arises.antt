@@ -11,7 +11,7 @@ use Rattle.scl.specs.declared.Mark.the-variants.{Fresh, Safe, GoesOn, No
 use Rattle.scl.specs.declared.Check.the-variants as check
 use Rattle.scl.specs.Time.{elapsedOf, expiredOf}
 use Rattle.scl.specs.Counts.{countAfter, inverted}
-use Rattle.scl.specs.Happenings.{readingOf, checkOf, markOf, markNumberOf, checkNumberOf}
+use Rattle.scl.specs.Happenings.{readingOf, checkOf, markOf, isFresh, markNumberOf, checkNumberOf}
 use Rattle.scl.specs.Delayed.{delayed, delayedHappening}
 
 -- 01, "Numbers to try": of W 100 elapsed 100 passes and 101 has expired
@@ -37,6 +37,10 @@ each-check s p = (refl, (refl, (refl, refl)))
 pub each-mark : (admitted : Bool) → (markOf admitted false ≡ Safe) × ((markOf true true ≡ Fresh) × (markOf false true ≡ GoesOn))
 each-mark true = (refl, (refl, refl))
 each-mark false = (refl, (refl, refl))
+
+-- of the four only the first hands on octets of this call
+pub each-fresh : map isFresh (Fresh ∷ GoesOn ∷ Safe ∷ Nothing ∷ []) ≡ true ∷ false ∷ false ∷ false ∷ []
+each-fresh = refl
 
 -- as include/whakelouna.h numbers them
 pub each-number :

@@ -32,6 +32,13 @@ isFailure check.Count = true
 abbrev pub markOf : Bool → Bool → Mark
 markOf admitted released = cond (not released) Safe (cond admitted Fresh GoesOn)
 
+-- this call's SPDU led to a release: its process octets are handed on
+abbrev pub isFresh : Mark → Bool
+isFresh Fresh = true
+isFresh GoesOn = false
+isFresh Safe = false
+isFresh Nothing = false
+
 -- their numbers outside
 abbrev pub markNumberOf : Mark → ℕ
 markNumberOf Fresh = 0

@@ -2,7 +2,7 @@
 ghost use mathlib.Core.Path.{_≡_};
 ghost use Rattle.scl.specs.Time.{elapsedOf, expiredOf};
 ghost use Rattle.scl.specs.Counts.{countAfter, inverted};
-ghost use Rattle.scl.specs.Happenings.{readingOf, markNumberOf, checkNumberOf, checkOf, isFailure, markOf};
+ghost use Rattle.scl.specs.Happenings.{readingOf, markNumberOf, checkNumberOf, checkOf, isFailure, markOf, isFresh};
 
 // What an FS-Master reads of a received SPDU: its length, and its fields (000 Table 32). `unused` is where there would be padding: 0.
 #[repr(C)]
@@ -130,6 +130,17 @@ pub fn mark_of(admitted: bool, released: bool) -> Mark
         return Mark::Safe;
     }
     if admitted { Mark::Fresh } else { Mark::GoesOn }
+}
+
+pub fn is_fresh(mark: Mark) -> bool
+    ensures { λ r. ⌜ r ≡ isFresh mark ⌝ }
+{
+    match mark {
+        Mark::Fresh => true,
+        Mark::GoesOn => false,
+        Mark::Safe => false,
+        Mark::Nothing => false,
+    }
 }
 
 pub fn mark_number(mark: Mark) -> u8

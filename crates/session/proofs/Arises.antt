@@ -17,9 +17,9 @@ use Rattle.scl.specs.declared.Happening.the-variants.{Response, Clock, Operator
 use Rattle.scl.specs.Time.{elapsedOf}
 use Rattle.fs_master.specs.Table38 as table38
 use Rattle.fs_master.specs.Calls as masters
-use Rattle.fs_master.specs.History.{masterAfter, watchedIn, passesBy, previousBy, lastAdmitted, isOldAfter}
+use Rattle.fs_master.specs.History.{masterAfter, watchedIn, passesBy, signals, signalsAfter}
 use Rattle.histogram.specs.Samples.{limit}
-use Rattle.samples.specs.Samples.{oldBy, sentSince, passedForCount, timeOf, isSample, samples}
+use Rattle.samples.specs.Samples.{releasesBy, sentSince, passedForCount, timeOf, isSample, samples}
 use Rattle.bench.specs.Methods.{annexD}
 use Rattle.bench.specs.declared.Setting.{Setting}
 use Rattle.bench.specs.declared.Bench.{Bench}
@@ -119,7 +119,7 @@ record Since : Type 0 where
   sample : samples 1000 100 past ≡ 10 ∷ []
 
 since-met : Since
-unfolding sinceBlock extended goesOn addressed resultOf historyBy asked askedByBlock done placed portAt withPort newBench newPort silent signing.signature signing.octet signing.shiftInAll signing.shiftIn acceptedPort stepOf said samples isSample sentSince passedForCount oldBy isOldAfter lastAdmitted previousBy timeOf masterAfter watchedIn passesBy elapsedOf table38.watchdogRow table38.isOld table38.isAdmitted table38.acted masters.watched
+unfolding sinceBlock extended goesOn addressed resultOf historyBy asked askedByBlock done placed portAt withPort newBench newPort silent signing.signature signing.octet signing.shiftInAll signing.shiftIn acceptedPort stepOf said samples isSample sentSince passedForCount releasesBy signals signalsAfter timeOf masterAfter watchedIn passesBy elapsedOf table38.watchdogRow table38.isOld table38.isAdmitted table38.acted masters.watched masters.stepOf masters.received masters.arrived table38.arrivalRow table38.checked
 since-met = record { one = refl; none = refl; sample = refl }
 
 pub line-shown-met : lineOfPort 1 (portAt (ran start records .bench) 1) ≡ portLine 1 100 1 10 10
