@@ -94,8 +94,8 @@ impl Pair {
 
     /// Adds the rows that the model took so far, and those of responses that passed, to those of the run.
     pub fn take_rows(&mut self) {
-        let counts = self.rows.iter_mut().chain(self.passed.as_flattened_mut());
-        let taken = self.model.rows.iter_mut().chain(self.model.passed.as_flattened_mut());
+        let counts = self.rows.iter_mut().chain(self.passed.iter_mut().flatten());
+        let taken = self.model.rows.iter_mut().chain(self.model.passed.iter_mut().flatten());
         for (count, taken) in counts.zip(taken) {
             *count += std::mem::take(taken);
         }
