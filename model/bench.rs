@@ -132,6 +132,7 @@ impl Running {
         if said.arrival != 0 {
             self.last_counts[0] = received.count;
         }
+        // 02, item 2: T4 and T11 release, where neither SDset nor setSD_C is 1.
         let [sd_set, ..] = received.bits;
         let releases = matches!(said.arrival, 4 | 11) && !sd_set && !self.master.set_sd_c;
         let time = elapsed(at, since);
