@@ -1,9 +1,10 @@
 // Document 01's answer numbers, and how a call's rules lead to one.
-ghost use mathlib.Core.Path.{_≡_};
-ghost use Rattle·answer·specs.specs.Answers.{numberOf, offsetOf, isTaken};
-ghost use Rattle·answer·specs.specs.Rules.{refused};
+ghost use Rattle.std.specs.Prelude.{◌≡◌};
+ghost use Rattle.answer.specs.Answers.{number_of, offset_of, is_taken};
+ghost use Rattle.answer.specs.Rules.{refused};
 
 // One case a number of document 01's table, in its order. A refusal that names a place in a parameter block holds its offset.
+#[derive(Drop)]
 pub enum Answer {
     Taken,
     BlockSize,
@@ -22,7 +23,7 @@ pub enum Answer {
 }
 
 pub fn number(answer: Answer) -> u8
-    ensures { λ r. ⌜ r ≡ numberOf answer ⌝ }
+    ensures { result ≡ number_of answer }
 {
     match answer {
         Answer::Taken => 0,
@@ -44,7 +45,7 @@ pub fn number(answer: Answer) -> u8
 
 // 0 for numbers other than 5 and 6.
 pub fn offset(answer: Answer) -> u8
-    ensures { λ r. ⌜ r ≡ offsetOf answer ⌝ }
+    ensures { result ≡ offset_of answer }
 {
     match answer {
         Answer::Taken => 0,
@@ -65,14 +66,14 @@ pub fn offset(answer: Answer) -> u8
 }
 
 pub fn is_taken(answer: Answer) -> bool
-    ensures { λ r. ⌜ r ≡ isTaken answer ⌝ }
+    ensures { result ≡ is_taken answer }
 {
     number(answer) == 0
 }
 
 // One rule of a call: an earlier refusal stays; else a broken rule refuses.
 pub fn refuse(answer: Answer, broken: bool, refusal: Answer) -> Answer
-    ensures { λ r. ⌜ r ≡ refused answer broken refusal ⌝ }
+    ensures { result ≡ refused answer broken refusal }
 {
     if is_taken(answer) & broken {
         refusal
