@@ -1,10 +1,12 @@
 // Document 01's answer numbers, and how a call's rules lead to one.
+#![tactic(auto)]
+
 ghost use Rattle.std.specs.Prelude.{◌≡◌};
 ghost use Rattle.answer.specs.Answers.{number_of, offset_of, is_taken};
 ghost use Rattle.answer.specs.Rules.{refused};
 
 // One case a number of document 01's table, in its order. A refusal that names a place in a parameter block holds its offset.
-#[derive(Drop)]
+#[derive(Clone, Copy)]
 pub enum Answer {
     Taken,
     BlockSize,

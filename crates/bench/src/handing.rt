@@ -147,7 +147,7 @@ pub fn hand_on<'a>(
     if answer::is_taken(a) {
         let part = part_at(engine, end, p, mark, spdu, safe);
         if part.len() <= out.len() {
-            let n = bytes::copy(part, out);
+            let n = octets::copy(part, out);
             Handed {
                 answer: Answer::Taken,
                 octets: n,

@@ -3,6 +3,8 @@
 //
 // What a call asks of its port (acts.rt) and what a happening makes of it (turns.rt) are each worked out in one place, by value. A call stores what
 // comes out; so does whoever keeps the ports in columns (columns.rt) and has many happenings for them, as a session does.
+#![tactic(auto)]
+
 mod acts;
 mod at_port;
 mod by_t4;
@@ -35,7 +37,7 @@ pub const PORT_COUNT: usize = 8;
 // What only an accepted block changes. `running`: parameters have been accepted. `unused` here and below stands where there would be padding: 0 in a new
 // bench, and no call touches it, so that two benches that are the same are so octet for octet.
 #[repr(C)]
-#[derive(Drop)]
+#[derive(Clone, Copy)]
 pub struct Setting {
     pub params: Params,
     pub running: bool,
@@ -44,7 +46,7 @@ pub struct Setting {
 
 // What a happening changes: both ends, and all of the histogram but its bins.
 #[repr(C)]
-#[derive(Drop)]
+#[derive(Clone, Copy)]
 pub struct Live {
     pub device: Device,
     pub master: Master,
@@ -54,7 +56,7 @@ pub struct Live {
 
 // A port.
 #[repr(C)]
-#[derive(Drop)]
+#[derive(Clone, Copy)]
 pub struct Port {
     pub setting: Setting,
     pub live: Live,
@@ -63,20 +65,20 @@ pub struct Port {
 
 // Ports 1 to 8.
 #[repr(C)]
-#[derive(Drop)]
+#[derive(Clone, Copy)]
 pub struct Bench {
     pub ports: [Port; PORT_COUNT],
 }
 
 // Where the port of a number stands: `outside` says that no port has the number, and then the index is 0.
-#[derive(Drop)]
+#[derive(Clone, Copy)]
 pub struct Place {
     pub index: usize,
     pub outside: bool,
 }
 
 // What a call with a reading asks of the port that it addresses.
-#[derive(Drop)]
+#[derive(Clone, Copy)]
 pub enum Act {
     // Nothing: it is refused.
     Refused(Answer),
@@ -87,7 +89,7 @@ pub enum Act {
 }
 
 // What a happening makes of a port: what it changes, whether it raises a bin and which, and what each end hands on.
-#[derive(Drop)]
+#[derive(Clone, Copy)]
 pub struct Turned {
     pub live: Live,
     pub counts: bool,
@@ -98,7 +100,7 @@ pub struct Turned {
 
 // What a call says: its answer, and for each end what is handed on and whether the end releases after the call. In a refusal nothing is
 // handed on and nothing is said to be released.
-#[derive(Drop)]
+#[derive(Clone, Copy)]
 pub struct Reply {
     pub answer: Answer,
     pub master: Mark,
@@ -108,28 +110,28 @@ pub struct Reply {
 }
 
 // The bench after a call.
-#[derive(Drop)]
+#[derive(Clone, Copy)]
 pub struct BenchAfter {
     pub bench: Bench,
     pub reply: Reply,
 }
 
 // An end of a port.
-#[derive(Drop)]
+#[derive(Clone, Copy)]
 pub enum End {
     Master,
     Device,
 }
 
 // How many octets were copied of what a call handed on.
-#[derive(Drop)]
+#[derive(Clone, Copy)]
 pub struct Handed {
     pub answer: Answer,
     pub octets: usize,
 }
 
 // The bins of a port with their total and the frozen mark.
-#[derive(Drop)]
+#[derive(Clone, Copy)]
 pub struct Bins {
     pub answer: Answer,
     pub bins: [u32; BIN_COUNT],
@@ -138,14 +140,14 @@ pub struct Bins {
 }
 
 // State and signals of a port's FS-Master.
-#[derive(Drop)]
+#[derive(Clone, Copy)]
 pub struct MasterShown {
     pub answer: Answer,
     pub master: Master,
 }
 
 // State and signals of a port's FS-Device.
-#[derive(Drop)]
+#[derive(Clone, Copy)]
 pub struct DeviceShown {
     pub answer: Answer,
     pub device: Device,

@@ -1,4 +1,6 @@
 // The parameter block: the 48 octets of FSPortConfigList (000 Table 22), read, judged and turned into parameters.
+#![tactic(auto)]
+
 ghost use Rattle.std.specs.Prelude.{◌≡◌};
 ghost use Rattle.answer.specs.Rules.{answer_by};
 ghost use Rattle.block.specs.Rules.{id_rules, field_rules, agreement_rules, no_params, judged_as, judged_by, judged};
@@ -14,7 +16,7 @@ use signature::Engine;
 // FSP_Port, FSP_ProtMode, FSP_WatchdogTime (W) and the four lengths: InputDataLength is n, OutputDataLength p, SPDUInLength m, SPDUOutLength o.
 // They read no other field; the others are kept so that a caller can be shown the accepted block. The widest stand first, so that no octet is padding.
 #[repr(C)]
-#[derive(Drop)]
+#[derive(Clone, Copy)]
 pub struct Params {
     pub DeviceID: u32,
     pub FSCP_Authenticity1: u32,
@@ -45,7 +47,7 @@ pub struct Params {
 }
 
 // The three signatures that are checked.
-#[derive(Drop)]
+#[derive(Clone, Copy)]
 pub struct Signatures {
     pub FSP_AuthentCRC: u16,
     pub FSP_IO_StructCRC: u16,
@@ -53,7 +55,7 @@ pub struct Signatures {
 }
 
 // All that stands in a block.
-#[derive(Drop)]
+#[derive(Clone, Copy)]
 pub struct Block {
     pub ArgBlockID: u16,
     pub params: Params,
@@ -61,7 +63,7 @@ pub struct Block {
 }
 
 // The answer, and the parameters of a block that is accepted; of a refusal none.
-#[derive(Drop)]
+#[derive(Clone, Copy)]
 pub struct Judged {
     pub answer: Answer,
     pub params: Params,

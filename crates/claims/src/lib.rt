@@ -1,1 +1,2 @@
 // What is claimed: specs/. It has no function.
+#![tactic(auto)]

@@ -18,7 +18,7 @@ use fs_master::Master;
 use scl::Mark;
 
 #[repr(C)]
-#[derive(Drop)]
+#[derive(Clone, Copy)]
 pub struct ReplyTold {
     pub number: u8,
     pub offset: u8,
@@ -30,14 +30,14 @@ pub struct ReplyTold {
 }
 
 #[repr(C)]
-#[derive(Drop)]
+#[derive(Clone, Copy)]
 pub struct BenchTold {
     pub bench: Bench,
     pub reply: ReplyTold,
 }
 
 #[repr(C)]
-#[derive(Drop)]
+#[derive(Clone, Copy)]
 pub struct SplitTold {
     pub spdu: usize,
     pub other: usize,
@@ -46,7 +46,7 @@ pub struct SplitTold {
 }
 
 #[repr(C)]
-#[derive(Drop)]
+#[derive(Clone, Copy)]
 pub struct HandedTold {
     pub octets: usize,
     pub number: u8,
@@ -54,7 +54,7 @@ pub struct HandedTold {
 }
 
 #[repr(C)]
-#[derive(Drop)]
+#[derive(Clone, Copy)]
 pub struct BinsTold {
     pub bins: [u32; BIN_COUNT],
     pub total: u32,
@@ -64,7 +64,7 @@ pub struct BinsTold {
 }
 
 #[repr(C)]
-#[derive(Drop)]
+#[derive(Clone, Copy)]
 pub struct MasterTold {
     pub master: Master,
     pub number: u8,
@@ -72,7 +72,7 @@ pub struct MasterTold {
 }
 
 #[repr(C)]
-#[derive(Drop)]
+#[derive(Clone, Copy)]
 pub struct DeviceTold {
     pub device: Device,
     pub number: u8,

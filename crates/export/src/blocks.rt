@@ -8,7 +8,7 @@ use block::Params;
 
 // A block's answer in numbers, its offset, and the parameters, which are zeros in a refusal.
 #[repr(C)]
-#[derive(Drop)]
+#[derive(Clone, Copy)]
 pub struct BlockAnswer {
     pub params: Params,
     pub number: u8,

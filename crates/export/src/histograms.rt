@@ -9,7 +9,7 @@ use histogram::{Histogram, TrendPoint};
 
 // A trend point beside its answer number.
 #[repr(C)]
-#[derive(Drop)]
+#[derive(Clone, Copy)]
 pub struct NumberedTrend {
     pub point: TrendPoint,
     pub number: u8,

@@ -13,7 +13,7 @@ use fs_master::Master;
 use scl::{Happening, Request, Response};
 
 #[repr(C)]
-#[derive(Drop)]
+#[derive(Clone, Copy)]
 pub struct DeviceOutcome {
     pub device: Device,
     pub watchdog: u8,
@@ -26,7 +26,7 @@ pub struct DeviceOutcome {
 }
 
 #[repr(C)]
-#[derive(Drop)]
+#[derive(Clone, Copy)]
 pub struct MasterOutcome {
     pub master: Master,
     pub watchdog: u8,

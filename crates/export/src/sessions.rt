@@ -7,7 +7,7 @@ use crate::signatures::engine_of;
 use session::{Fed, State, Stop};
 
 #[repr(C)]
-#[derive(Drop)]
+#[derive(Clone, Copy)]
 pub struct FedTold {
     pub state: State,
     pub used: usize,

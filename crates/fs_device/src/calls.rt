@@ -8,7 +8,7 @@ use crate::{Device, Outcome, Row};
 use scl::{Check, Happening, Request};
 
 // The device once its watchdog has been looked at, with the row that did it.
-#[derive(Drop)]
+#[derive(Clone, Copy)]
 struct AfterWatchdog {
     row: Row,
     device: Device,

@@ -1,4 +1,6 @@
 // The FS-Device's SCL machine: 000 Table 40.
+#![tactic(auto)]
+
 mod calls;
 mod table40;
 
@@ -9,7 +11,7 @@ pub use table40::{first, row_number};
 // is the reading of its last restart, and `runs` says whether there was one. `released`: PDout is in use. `responded`: a response has been
 // prepared; before it the outgoing SPDU is zeros. Both counts of errors are u16, so that no octet of the struct is padding.
 #[repr(C)]
-#[derive(Drop)]
+#[derive(Clone, Copy)]
 pub struct Device {
     pub DTimer: u32,
     pub CommErrCount: u16,
@@ -29,7 +31,7 @@ pub struct Device {
 }
 
 // The rows that act; Stay for none.
-#[derive(Drop)]
+#[derive(Clone, Copy)]
 pub enum Row {
     Stay,
     T22,
@@ -42,7 +44,7 @@ pub enum Row {
 
 // What a call did at the FS-Device: the watchdog's row, then the row of the SPDU that came, the check that failed first, whether the SPDU was
 // old and whether it passed its checks, and what is handed on.
-#[derive(Drop)]
+#[derive(Clone, Copy)]
 pub struct Outcome {
     pub device: Device,
     pub watchdog: Row,

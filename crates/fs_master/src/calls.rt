@@ -10,7 +10,7 @@ use crate::{Master, Outcome, Row};
 use scl::{Check, Happening, Response};
 
 // The master once its watchdog has been looked at, with the row that did it.
-#[derive(Drop)]
+#[derive(Clone, Copy)]
 struct AfterWatchdog {
     row: Row,
     master: Master,

@@ -1,4 +1,6 @@
 // The FS-Master's SCL machine: 000 Table 38.
+#![tactic(auto)]
+
 mod by_t4;
 mod calls;
 mod table38;
@@ -12,7 +14,7 @@ pub use table38::{first, row_number};
 // restart, and `runs` says whether there was one; `start` is the reading from which a sample's time runs. `released`: PDin is in use. Both counts
 // are u16, so that no octet of the struct is padding.
 #[repr(C)]
-#[derive(Drop)]
+#[derive(Clone, Copy)]
 pub struct Master {
     pub MTimer: u32,
     pub start: u32,
@@ -33,7 +35,7 @@ pub struct Master {
 }
 
 // The rows that act; Stay for none.
-#[derive(Drop)]
+#[derive(Clone, Copy)]
 pub enum Row {
     Stay,
     T4,
@@ -47,7 +49,7 @@ pub enum Row {
 
 // What a call did at the FS-Master: the watchdog's row, then the row of the SPDU that came, the check that failed first, whether the SPDU was
 // old and whether it passed, from which reading a sample's time runs once the watchdog has been looked at, and what is handed on.
-#[derive(Drop)]
+#[derive(Clone, Copy)]
 pub struct Outcome {
     pub master: Master,
     pub watchdog: Row,

@@ -1,1 +1,2 @@
 // Polynomials over two elements, as mathematics: specs/ has the definitions and proofs/ the theorems. There is no code to run.
+#![tactic(auto)]

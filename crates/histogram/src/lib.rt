@@ -1,4 +1,6 @@
 // The response histogram of a port and its trend point (document 01, "The histogram and the trend").
+#![tactic(auto)]
+
 ghost use Rattle.std.specs.Prelude.{◌≡◌, min, max, if◌then◌else◌, ◌==◌};
 ghost use Rattle.histogram.specs.Samples.{bin_of, limit};
 ghost use Rattle.histogram.specs.Counted.{frozen_of, cleared_of, totals_of, with_bins, raised_if, totalled_of, counted_of};
@@ -13,7 +15,7 @@ pub const LIMIT: u32 = 4294967295;
 
 // Samples are in ms. Where there is none, the lowest and the highest are 0.
 #[repr(C)]
-#[derive(Drop)]
+#[derive(Clone, Copy)]
 pub struct Histogram {
     pub sum: u64,
     pub bins: [u32; BIN_COUNT],
@@ -24,7 +26,7 @@ pub struct Histogram {
 
 // All of a histogram but its bins, for a caller that keeps the bins elsewhere.
 #[repr(C)]
-#[derive(Drop)]
+#[derive(Clone, Copy)]
 pub struct Totals {
     pub sum: u64,
     pub total: u32,
@@ -33,7 +35,7 @@ pub struct Totals {
 }
 
 // The totals after a sample, and whether it was counted.
-#[derive(Drop)]
+#[derive(Clone, Copy)]
 pub struct Sampled {
     pub totals: Totals,
     pub counted: bool,
@@ -41,7 +43,7 @@ pub struct Sampled {
 
 // The mean, and the lowest and the highest sample, in ms.
 #[repr(C)]
-#[derive(Drop)]
+#[derive(Clone, Copy)]
 pub struct TrendPoint {
     pub mean: f64,
     pub lowest: f32,
@@ -49,7 +51,7 @@ pub struct TrendPoint {
 }
 
 // A trend point beside its answer.
-#[derive(Drop)]
+#[derive(Clone, Copy)]
 pub struct Trend {
     pub answer: Answer,
     pub point: TrendPoint,

@@ -1,4 +1,6 @@
 // The lines of text that a session prints, in ASCII, each by value (document 01, "The session program").
+#![tactic(auto)]
+
 ghost use Rattle.std.specs.Prelude.{◌≡◌, ◌++◌, ◌+◌, ◌≤◌, length};
 ghost use Rattle.io.specs.Counts.{IsPrefixLen};
 ghost use Rattle.lines.specs.Text as texts;
@@ -8,14 +10,14 @@ pub const LINE_ROOM: usize = 64;
 pub const PORT_ROOM: usize = 128;
 
 // A line at the front of its octets; zeros behind it.
-#[derive(Drop)]
+#[derive(Clone, Copy)]
 pub struct Line {
     pub octets: [u8; LINE_ROOM],
     pub length: usize,
 }
 
 // The same, for the line of a port.
-#[derive(Drop)]
+#[derive(Clone, Copy)]
 pub struct PortLine {
     pub octets: [u8; PORT_ROOM],
     pub length: usize,
@@ -25,7 +27,7 @@ fn put(buf: &mut [u8], at: usize, text: &[u8]) -> usize
     requires { at + length text.now ≤ length buf.old }
     ensures { texts.Written buf.old at text.now result buf.new }
 {
-    let n = bytes::copy(text, &mut buf[at..]);
+    let n = octets::copy(text, &mut buf[at..]);
     at + n
 }
 

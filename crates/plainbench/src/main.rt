@@ -1,5 +1,7 @@
 // The session program with the signatures by the bit shift of 000 Figures D.3 and D.5 alone: for approval people, who follow it without a table.
 // It prints what `portbench` prints.
+#![tactic(auto)]
+
 ghost use Rattle.std.specs.Prelude.{◌≡◌};
 
 use signature::Engine;

@@ -1,4 +1,6 @@
 // The session program with the signatures by a look-up in 000's tables.
+#![tactic(auto)]
+
 ghost use Rattle.std.specs.Prelude.{◌≡◌};
 
 use signature::Engine;

@@ -1,9 +1,11 @@
 // The records of a session (document 01, "The session program"): reading one.
+#![tactic(auto)]
+
 ghost use Rattle.std.specs.Prelude.{◌≡◌, true, ◌+◌, ◌*◌, ◌^◌, ◌≤◌, ◌<◌, length};
 ghost use Rattle.record.specs.Format as format;
 
 // What stands at a position of a session.
-#[derive(Drop)]
+#[derive(Clone, Copy)]
 pub enum Record {
     // A whole record. Its octets stand from start to next, which is past it.
     Whole {

@@ -1,4 +1,6 @@
 // Which responses are samples, and how long each took (01, "The histogram and the trend"; 02, item 2).
+#![tactic(auto)]
+
 ghost use Rattle.std.specs.Prelude.{◌≡◌, true};
 ghost use Rattle.samples.specs.Tallied as tally;
 
@@ -8,7 +10,7 @@ use scl::{Happening, Mark};
 
 // What a happening does at an FS-Master. `releases`: a response has come that led to a release, t ms after the count that it answers was first
 // sent.
-#[derive(Drop)]
+#[derive(Clone, Copy)]
 pub struct MasterTurn {
     pub master: Master,
     pub mark: Mark,

@@ -1,4 +1,6 @@
 // What both SCL machines share: elapsed time, the fields of an SPDU that they see, what can happen at a port, and what a call says of it.
+#![tactic(auto)]
+
 ghost use Rattle.std.specs.Prelude.{◌≡◌};
 ghost use Rattle.scl.specs.Time.{elapsed_of, expired_of};
 ghost use Rattle.scl.specs.Counts.{count_after, inverted};
@@ -6,7 +8,7 @@ ghost use Rattle.scl.specs.Happenings.{reading_of, mark_number_of, check_number_
 
 // What an FS-Master reads of a received SPDU: its length, and its fields (000 Table 32). `unused` is where there would be padding: 0.
 #[repr(C)]
-#[derive(Drop)]
+#[derive(Clone, Copy)]
 pub struct Response {
     pub length: usize,
     pub DCount_i: u8,
@@ -21,7 +23,7 @@ pub struct Response {
 
 // What an FS-Device reads of a received SPDU (000 Table 31), in the same way.
 #[repr(C)]
-#[derive(Drop)]
+#[derive(Clone, Copy)]
 pub struct Request {
     pub length: usize,
     pub MCount: u8,
@@ -34,7 +36,7 @@ pub struct Request {
 }
 
 // What a call hands on at an end: process octets of this SPDU, safe values, or nothing because release goes on or because the call was refused.
-#[derive(Drop)]
+#[derive(Clone, Copy)]
 pub enum Mark {
     Fresh,
     Safe,
@@ -44,7 +46,7 @@ pub enum Mark {
 
 // What happens at a port from outside (01), each with its clock reading: an SPDU received as FS-Master, one received as FS-Device, a clock
 // reading alone, the operator signals setSD_C and ChFAck_C.
-#[derive(Drop)]
+#[derive(Clone, Copy)]
 pub enum Happening {
     Response(u32, Response),
     Request(u32, Request),
@@ -53,7 +55,7 @@ pub enum Happening {
 }
 
 // The check that failed first.
-#[derive(Drop)]
+#[derive(Clone, Copy)]
 pub enum Check {
     None,
     Signature,
@@ -61,6 +63,7 @@ pub enum Check {
     Count,
 }
 
+#[tactic(auto, unfolding(crate::specs::Time::elapsed_of))]
 pub fn elapsed(now: u32, since: u32) -> u32
     ensures { result ≡ elapsed_of now since }
 {

@@ -2,6 +2,8 @@
 //
 // A program starts with `start`, hands on each chunk of octets to `feed` together with what the last call left of the chunk before, prints
 // what it wrote, and at the end of the input, or where a record is bad, prints what `finish` writes.
+#![tactic(auto)]
+
 mod calling;
 mod run;
 mod text;
@@ -11,7 +13,7 @@ pub use run::{feed, finish, start};
 
 // How far a session has come: the bench, the whole records and those refused.
 #[repr(C)]
-#[derive(Drop)]
+#[derive(Clone, Copy)]
 pub struct State {
     pub bench: Bench,
     pub records: u64,
@@ -19,7 +21,7 @@ pub struct State {
 }
 
 // Why reading stopped.
-#[derive(Drop)]
+#[derive(Clone, Copy)]
 pub enum Stop {
     // A whole record stands there, and there may be no room for its line.
     Full,
@@ -32,7 +34,7 @@ pub enum Stop {
 }
 
 // After a chunk: how many of its octets are used up, and how many were written.
-#[derive(Drop)]
+#[derive(Clone, Copy)]
 pub struct Fed {
     pub state: State,
     pub used: usize,

@@ -11,7 +11,7 @@ pub(crate) fn put(buf: &mut [u8], at: usize, line: &[u8], n: usize) -> usize
     requires n_in_bounds { at + n ≤ length buf.old }
     ensures { lines.Written buf.old at (take n line.now) result buf.new }
 {
-    at + bytes::copy(&line[..n], &mut buf[at..])
+    at + octets::copy(&line[..n], &mut buf[at..])
 }
 
 fn line_of_port(buf: &mut [u8], at: usize, port: u8, p: Port) -> usize

@@ -2,6 +2,8 @@
 // are this with an engine each. What is right is in the contracts of `session`; here it is proved that no step goes wrong, that the run ends, that
 // each read has room, what each chunk comes to and what is kept of it, that reading goes on as long as it may, and what `finish` makes of the last
 // chunk.
+#![tactic(auto)]
+
 ghost use Rattle.std.specs.Prelude.{◌≡◌, ◌-◌, ◌<◌, ◌≤◌, ltb, length, take};
 ghost use Rattle.libc.specs.Io.{Moved};
 ghost use Rattle.record.specs.Format.{most_octets};
@@ -13,7 +15,7 @@ use session::{State, Stop};
 use signature::Engine;
 
 // Where a chunk leaves the run, and at its end the run itself.
-#[derive(Drop)]
+#[derive(Clone, Copy)]
 pub enum Going {
     // There is more to read.
     On,
@@ -24,7 +26,7 @@ pub enum Going {
 }
 
 // After a chunk. `left`: how many octets that are no whole record stand behind those that were read.
-#[derive(Drop)]
+#[derive(Clone, Copy)]
 struct Chunk {
     state: State,
     left: usize,

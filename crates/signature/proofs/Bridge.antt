@@ -59,7 +59,7 @@ module _ (w g : ℕ) where
     shift_in_all-lt : {r : ℕ} (ds : List Bool) → r < 2 ^ w → shift_in_all w g r ds < 2 ^ w
     unfolding shift_in_all
     shift_in_all-lt [] h = h
-    shift_in_all-lt {r} (d ∷ ds) h = shift_in_all-lt ds (shift_in-lt r d)
+    shift_in_all-lt {r = r} (d ∷ ds) h = shift_in_all-lt {r = shift_in w g r d} ds (shift_in-lt r d)
 
     -- after one turn, whatever the register was
     pub turns_lt : (n : ℕ) → 0 < n → (r x : ℕ) → shift_in_all w g r (bits n x) < 2 ^ w
@@ -74,4 +74,4 @@ module _ (w g : ℕ) where
     pub signature-lt : {r : ℕ} (xs : List ℕ) → r < 2 ^ w → signature w g r xs < 2 ^ w
     unfolding signature
     signature-lt [] h = h
-    signature-lt {r} (x ∷ xs) h = signature-lt xs (octet-lt r x)
+    signature-lt {r = r} (x ∷ xs) h = signature-lt {r = octet w g r x} xs (octet-lt r x)

@@ -5,6 +5,8 @@
 //
 // The look-up comes in two forms. The plain one (`signature16`) names its table, which is laid on the stack in every call. The one with a table
 // lent (`signature16_by`) is for a loop that names the table once; it takes any table, and signs where the table is right.
+#![tactic(auto)]
+
 mod by_engine;
 mod long;
 mod long_by_shift;
@@ -20,7 +22,7 @@ pub use short::{signature16, signature16_by, step16, step16_by, table16};
 pub use short_by_shift::{signature16_by_shift, step16_by_shift};
 
 // The method that signs, chosen once for all that signs (02, item 3).
-#[derive(Drop)]
+#[derive(Clone, Copy)]
 pub enum Engine {
     // The look-up in 000's tables.
     Table,

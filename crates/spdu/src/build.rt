@@ -55,8 +55,8 @@ fn join(front: &[u8], back: &[u8], out: &mut [u8])
     requires { length out.old ≡ length front.now + length back.now }
     ensures { out.new ≡ front.now ++ back.now }
 {
-    let n = bytes::copy(front, out);
-    bytes::copy(back, &mut out[n..]);
+    let n = octets::copy(front, out);
+    octets::copy(back, &mut out[n..]);
 }
 
 fn write(
@@ -137,7 +137,7 @@ fn clear(out: &mut [u8])
 {
     let zeros = [0u8; 255];
     let n = out.len();
-    bytes::copy(&zeros[..n], out);
+    octets::copy(&zeros[..n], out);
 }
 
 // The FS-Master's SPDU, into exactly SPDUOutLength octets.

@@ -54,7 +54,7 @@ pub fn compose_by(
             process,
             &mut octets[..o],
         );
-        bytes::copy(other, &mut octets[o..]);
+        octets::copy(other, &mut octets[o..]);
         return Answer::Taken;
     }
     Answer::Buffer

@@ -2,6 +2,8 @@
 //
 // All that signs takes the engine. A function whose name ends in `_by` takes the two signature tables besides, lent, so that a loop names them
 // once; it takes any tables.
+#![tactic(auto)]
+
 mod build;
 mod image;
 mod plain;

@@ -108,7 +108,7 @@ fn long_holds(engine: Engine, long: &[u32; 16], s: &[u8]) -> bool
 }
 
 // What an SPDU carries behind its process octets; `control` is the status octet of a response.
-#[derive(Drop)]
+#[derive(Clone, Copy)]
 struct Trailer {
     port: u8,
     control: u8,

@@ -7,7 +7,7 @@ use scl::{Happening, Request, Response};
 // Document 01: W 100.
 const W: u16 = 100;
 
-#[derive(Drop)]
+#[derive(Clone, Copy)]
 struct Ends {
     master: Master,
     device: Device,

@@ -1,5 +1,7 @@
 // Runs document 01's numbers and 000's printed tables, and compares. What it prints is held to the file stdout. All that signs runs by each engine
 // (02, item 3) and prints the same lines.
+#![tactic(auto)]
+
 mod blocks;
 mod histograms;
 mod machines;

@@ -31,7 +31,7 @@ fn misprint(name: &[u8], i: usize, printed: u64, ours: u64, digits: usize) -> u6
 }
 
 // How many entries were compared with their divisions, and how many of them differ.
-#[derive(Drop)]
+#[derive(Clone, Copy)]
 struct Compared {
     entries: u64,
     differ: u64,

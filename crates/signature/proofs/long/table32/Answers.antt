@@ -1,0 +1,10 @@
+-- `signature::long::table32` meets its contract: the test of its rule passes at each entry. Assumes nothing.
+use Rattle.std.proofs.Common.{refl}
+use Rattle.signature.specs.Signature.{shift_in, shift_in_all}
+use Rattle.signature.specs.Lookup.{division}
+use Rattle.signature.proofs.Table.{rule}
+use Rattle.signature.proofs.long.table32.Goals as goal
+
+pub returns : goal.returns
+unfolding shift_in shift_in_all division
+returns c = rule tt refl
