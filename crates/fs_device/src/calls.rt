@@ -14,6 +14,7 @@ struct AfterWatchdog {
     device: Device,
 }
 
+#[tactic(auto, unfolding(crate::specs::Calls::quiet))]
 fn quiet(d: Device, watchdog: Row, old: bool) -> Outcome
     ensures { result ≡ calls.quiet d watchdog old }
 {
@@ -28,6 +29,7 @@ fn quiet(d: Device, watchdog: Row, old: bool) -> Outcome
     }
 }
 
+#[tactic(auto, unfolding(crate::specs::Calls::arrived))]
 fn arrived(d: Device, watchdog: Row, at: u32, q: Request, failed: Check) -> Outcome
     ensures { result ≡ calls.arrived d watchdog at q failed }
 {
@@ -45,6 +47,7 @@ fn arrived(d: Device, watchdog: Row, at: u32, q: Request, failed: Check) -> Outc
     }
 }
 
+#[tactic(auto, unfolding(crate::specs::Calls::received))]
 fn received(d: Device, watchdog: Row, at: u32, q: Request) -> Outcome
     ensures { result ≡ calls.received d watchdog at q }
 {
@@ -57,6 +60,7 @@ fn received(d: Device, watchdog: Row, at: u32, q: Request) -> Outcome
 }
 
 // DTimeout: T31 from 24, T30 from 26.
+#[tactic(auto, unfolding(crate::specs::Table40::acted))]
 fn timed_out(d: Device, at: u32) -> AfterWatchdog
     ensures { (result.row ≡ table40.timeout_row d.state) × (result.device ≡ table40.acted d (table40.timeout_row d.state) at false false) }
 {
@@ -79,6 +83,7 @@ fn timed_out(d: Device, at: u32) -> AfterWatchdog
     }
 }
 
+#[tactic(auto, unfolding(crate::specs::Calls::watched, crate::specs::Table40::watchdog_row, crate::specs::Table40::acted))]
 fn watched(d: Device, w: u16, at: u32) -> AfterWatchdog
     ensures { (result.row ≡ table40.watchdog_row d w at) × (result.device ≡ calls.watched d w at) }
 {
@@ -93,6 +98,7 @@ fn watched(d: Device, w: u16, at: u32) -> AfterWatchdog
 }
 
 // A happening at a device whose watchdog time is w.
+#[tactic(auto, unfolding(crate::specs::Calls::step_of, crate::specs::Calls::clocked))]
 pub fn step(d: Device, w: u16, happening: Happening) -> Outcome
     ensures { result ≡ calls.step_of d w happening }
 {
@@ -109,6 +115,7 @@ pub fn step(d: Device, w: u16, happening: Happening) -> Outcome
 }
 
 // Whether a happening leaves the device as it is: no SPDU came for it and its watchdog is not over.
+#[tactic(auto, unfolding(crate::specs::Calls::unchanged))]
 pub fn unchanged(d: Device, w: u16, happening: Happening) -> bool
     ensures { result ≡ calls.unchanged d w happening }
 {

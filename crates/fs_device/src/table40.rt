@@ -34,6 +34,7 @@ pub(crate) fn is_old(d: Device, q: Request) -> bool
     !q.all_zero & ((d.state == 24) | (d.state == 26)) & (q.MCount == d.MCount)
 }
 
+#[tactic(auto, unfolding(crate::specs::Table40::is_admitted))]
 pub(crate) fn is_admitted(d: Device, q: Request, old: bool) -> bool
     requires { old ≡ table40.is_old d q }
     ensures { result ≡ table40.is_admitted d q }
@@ -42,6 +43,7 @@ pub(crate) fn is_admitted(d: Device, q: Request, old: bool) -> bool
     !q.all_zero & waits & !old
 }
 
+#[tactic(auto, unfolding(crate::specs::Table40::checked))]
 pub(crate) fn checked(d: Device, q: Request) -> Check
     ensures { result ≡ table40.checked d q }
 {
@@ -53,6 +55,7 @@ pub(crate) fn checked(d: Device, q: Request) -> Check
     )
 }
 
+#[tactic(auto, unfolding(crate::specs::Table40::arrival_row))]
 pub(crate) fn arrival_row(d: Device, CommErr: bool) -> Row
     ensures { result ≡ table40.arrival_row d CommErr }
 {
@@ -70,6 +73,7 @@ fn less(n: u8) -> u8
     if n == 0 { 0 } else { n - 1 }
 }
 
+#[tactic(auto, unfolding(crate::specs::Table40::admitted))]
 pub(crate) fn admitted(d: Device, q: Request) -> Device
     ensures { result ≡ table40.admitted d q }
 {
@@ -79,6 +83,7 @@ pub(crate) fn admitted(d: Device, q: Request) -> Device
     n
 }
 
+#[tactic(auto, unfolding(crate::specs::Table40::t22))]
 fn t22(d: Device, at: u32, setSD: bool) -> Device
     ensures { result ≡ table40.t22 d at setSD }
 {
@@ -98,6 +103,7 @@ fn t22(d: Device, at: u32, setSD: bool) -> Device
     n
 }
 
+#[tactic(auto, unfolding(crate::specs::Table40::t25))]
 fn t25(d: Device, at: u32) -> Device
     ensures { result ≡ table40.t25 d at }
 {
@@ -115,6 +121,7 @@ fn t25(d: Device, at: u32) -> Device
     n
 }
 
+#[tactic(auto, unfolding(crate::specs::Table40::t28))]
 fn t28(d: Device, at: u32) -> Device
     ensures { result ≡ table40.t28 d at }
 {
@@ -144,6 +151,7 @@ fn cycles_after(CommErr: bool, SDcycles: u8) -> u8
     if CommErr { 3 } else { less(SDcycles) }
 }
 
+#[tactic(auto, unfolding(crate::specs::Table40::t29))]
 fn t29(d: Device, at: u32, CommErr: bool) -> Device
     ensures { result ≡ table40.t29 d at CommErr }
 {
@@ -165,6 +173,7 @@ fn t29(d: Device, at: u32, CommErr: bool) -> Device
     n
 }
 
+#[tactic(auto, unfolding(crate::specs::Table40::t30t31))]
 pub(crate) fn t30_t31(d: Device, at: u32) -> Device
     ensures { result ≡ table40.t30t31 d at }
 {
@@ -183,6 +192,7 @@ pub(crate) fn t30_t31(d: Device, at: u32) -> Device
     n
 }
 
+#[tactic(auto, unfolding(crate::specs::Table40::acted))]
 pub(crate) fn acted(d: Device, row: Row, at: u32, setSD: bool, CommErr: bool) -> Device
     ensures { result ≡ table40.acted d row at setSD CommErr }
 {

@@ -9,6 +9,7 @@ use crate::table38::{admitted, is_expected, is_old, t4};
 use scl::Response;
 
 // Whether it is one, at a master whose watchdog time is w.
+#[tactic(auto, unfolding(crate::specs::Regular::is_regular))]
 pub fn is_regular(m: Master, w: u16, at: u32, f: Response) -> bool
     ensures { result ≡ regulars.is_regular m w at f }
 {

@@ -16,6 +16,7 @@ struct AfterWatchdog {
     master: Master,
 }
 
+#[tactic(auto, unfolding(crate::specs::Calls::quiet))]
 fn quiet(m: Master, watchdog: Row, old: bool) -> Outcome
     ensures { result ≡ calls.quiet m watchdog old }
 {
@@ -31,6 +32,7 @@ fn quiet(m: Master, watchdog: Row, old: bool) -> Outcome
     }
 }
 
+#[tactic(auto, unfolding(crate::specs::Calls::arrived))]
 fn arrived(m: Master, watchdog: Row, at: u32, f: Response, old: bool, failed: Check) -> Outcome
     requires { old ≡ table38.is_old m f }
     ensures { result ≡ calls.arrived m watchdog at f failed }
@@ -50,6 +52,7 @@ fn arrived(m: Master, watchdog: Row, at: u32, f: Response, old: bool, failed: Ch
     }
 }
 
+#[tactic(auto, unfolding(crate::specs::Calls::received))]
 fn received(m: Master, watchdog: Row, at: u32, f: Response) -> Outcome
     ensures { result ≡ calls.received m watchdog at f }
 {
@@ -62,6 +65,7 @@ fn received(m: Master, watchdog: Row, at: u32, f: Response) -> Outcome
 }
 
 // MTimeout: T8 from 5, T14 from 7.
+#[tactic(auto, unfolding(crate::specs::Table38::acted))]
 fn timed_out(m: Master, at: u32) -> AfterWatchdog
     ensures { (result.row ≡ table38.timeout_row m.state) × (result.master ≡ table38.acted m (table38.timeout_row m.state) at false) }
 {
@@ -84,6 +88,7 @@ fn timed_out(m: Master, at: u32) -> AfterWatchdog
     }
 }
 
+#[tactic(auto, unfolding(crate::specs::Calls::watched, crate::specs::Table38::watchdog_row))]
 fn watched(m: Master, w: u16, at: u32) -> AfterWatchdog
     ensures { (result.row ≡ table38.watchdog_row m w at) × (result.master ≡ calls.watched m w at) }
 {
@@ -98,6 +103,7 @@ fn watched(m: Master, w: u16, at: u32) -> AfterWatchdog
 }
 
 // A happening at a master whose watchdog time is w.
+#[tactic(auto, unfolding(crate::specs::Calls::step_of, crate::specs::Calls::clocked, crate::specs::Calls::operated))]
 pub fn step(m: Master, w: u16, happening: Happening) -> Outcome
     ensures { result ≡ calls.step_of m w happening }
 {

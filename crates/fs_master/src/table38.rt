@@ -35,12 +35,14 @@ pub(crate) fn is_expected(m: Master, f: Response) -> bool
     f.DCount_i == scl::inverted_count(m.MCount)
 }
 
+#[tactic(auto, unfolding(crate::specs::Table38::is_old))]
 pub(crate) fn is_old(m: Master, f: Response) -> bool
     ensures { result ≡ table38.is_old m f }
 {
     !f.all_zero & m.previous & ((f.DCount_i as u16 == m.carried) | (f.DCount_i as u16 == m.awaited))
 }
 
+#[tactic(auto, unfolding(crate::specs::Table38::is_admitted, crate::specs::Table38::is_old))]
 pub(crate) fn is_admitted(m: Master, f: Response, old: bool) -> bool
     requires { old ≡ table38.is_old m f }
     ensures { result ≡ table38.is_admitted m f }
@@ -54,6 +56,7 @@ pub(crate) fn is_admitted(m: Master, f: Response, old: bool) -> bool
     !zeros & (in2 & expected | in5 & !old | in7 & (!old | restarted & expected))
 }
 
+#[tactic(auto, unfolding(crate::specs::Table38::checked))]
 pub(crate) fn checked(m: Master, f: Response) -> Check
     ensures { result ≡ table38.checked m f }
 {
@@ -66,6 +69,7 @@ pub(crate) fn has_faults(MCommErr: bool, f: Response) -> bool
     MCommErr | f.DCommErr | f.DTimeout
 }
 
+#[tactic(auto, unfolding(crate::specs::Table38::from8))]
 fn from_check8(m: Master, faults: bool) -> Row
     ensures { result ≡ table38.from8 m faults }
 {
@@ -79,6 +83,7 @@ fn from_check8(m: Master, faults: bool) -> Row
     }
 }
 
+#[tactic(auto, unfolding(crate::specs::Table38::arrival_row, crate::specs::Table38::from8))]
 pub(crate) fn arrival_row(m: Master, faults: bool) -> Row
     ensures { result ≡ table38.arrival_row m faults }
 {
@@ -88,6 +93,7 @@ pub(crate) fn arrival_row(m: Master, faults: bool) -> Row
     if faults { Row::T7 } else { Row::T4 }
 }
 
+#[tactic(auto, unfolding(crate::specs::Table38::admitted))]
 pub(crate) fn admitted(m: Master, f: Response) -> Master
     ensures { result ≡ table38.admitted m f }
 {
@@ -98,12 +104,14 @@ pub(crate) fn admitted(m: Master, f: Response) -> Master
     n
 }
 
+#[tactic(auto, unfolding(crate::specs::Table38::start_from))]
 fn start_from(m: Master, count: u8, at: u32) -> u32
     ensures { result ≡ table38.start_from m count at }
 {
     if count == m.MCount { m.start } else { at }
 }
 
+#[tactic(auto, unfolding(crate::specs::Table38::t4))]
 pub(crate) fn t4(m: Master, at: u32, SDset: bool) -> Master
     ensures { result ≡ table38.t4 m at SDset }
 {
@@ -119,6 +127,7 @@ pub(crate) fn t4(m: Master, at: u32, SDset: bool) -> Master
     n
 }
 
+#[tactic(auto, unfolding(crate::specs::Table38::t7))]
 fn t7(m: Master, at: u32) -> Master
     ensures { result ≡ table38.t7 m at }
 {
@@ -134,6 +143,7 @@ fn t7(m: Master, at: u32) -> Master
     n
 }
 
+#[tactic(auto, unfolding(crate::specs::Table38::t8))]
 pub(crate) fn t8(m: Master, at: u32) -> Master
     ensures { result ≡ table38.t8 m at }
 {
@@ -149,6 +159,7 @@ pub(crate) fn t8(m: Master, at: u32) -> Master
     n
 }
 
+#[tactic(auto, unfolding(crate::specs::Table38::t11))]
 fn t11(m: Master, at: u32, SDset: bool) -> Master
     ensures { result ≡ table38.t11 m at SDset }
 {
@@ -167,6 +178,7 @@ fn t11(m: Master, at: u32, SDset: bool) -> Master
     n
 }
 
+#[tactic(auto, unfolding(crate::specs::Table38::t12))]
 fn t12(m: Master, at: u32) -> Master
     ensures { result ≡ table38.t12 m at }
 {
@@ -185,6 +197,7 @@ fn t12(m: Master, at: u32) -> Master
     n
 }
 
+#[tactic(auto, unfolding(crate::specs::Table38::t13))]
 fn t13(m: Master, at: u32) -> Master
     ensures { result ≡ table38.t13 m at }
 {
@@ -203,6 +216,7 @@ fn t13(m: Master, at: u32) -> Master
     n
 }
 
+#[tactic(auto, unfolding(crate::specs::Table38::t14))]
 pub(crate) fn t14(m: Master, at: u32) -> Master
     ensures { result ≡ table38.t14 m at }
 {
@@ -221,6 +235,7 @@ pub(crate) fn t14(m: Master, at: u32) -> Master
     n
 }
 
+#[tactic(auto, unfolding(crate::specs::Table38::acted))]
 pub(crate) fn acted(m: Master, row: Row, at: u32, SDset: bool) -> Master
     ensures { result ≡ table38.acted m row at SDset }
 {
@@ -236,6 +251,7 @@ pub(crate) fn acted(m: Master, row: Row, at: u32, SDset: bool) -> Master
     }
 }
 
+#[tactic(auto, unfolding(crate::specs::Table38::signalled))]
 pub(crate) fn signalled(m: Master, setSD_C: bool, ChFAck_C: bool) -> Master
     ensures { result ≡ table38.signalled m setSD_C ChFAck_C }
 {

@@ -65,12 +65,14 @@ pub fn bin(w: u16, t: u32) -> usize
 }
 
 // Whether a total has reached the limit.
+#[tactic(auto, unfolding(crate::specs::Samples::limit))]
 pub fn reached(total: u32) -> bool
     ensures { result ≡ (total == limit) }
 {
     total == LIMIT
 }
 
+#[tactic(auto, unfolding(crate::specs::Counted::frozen_of))]
 pub fn frozen(h: Histogram) -> bool
     ensures { result ≡ frozen_of h }
 {
@@ -147,6 +149,7 @@ pub fn with_bins(totals: Totals, bins: [u32; BIN_COUNT]) -> Histogram
 }
 
 // One more sample t in the totals. Where the limit is reached they stay as they are, and it is not counted.
+#[tactic(auto, unfolding(crate::specs::Samples::limit, crate::specs::Counted::totalled_of))]
 pub fn totalled(totals: Totals, t: u16) -> Sampled
     ensures { result ≡ totalled_of totals t }
 {
@@ -188,6 +191,7 @@ fn mean(sum: u64, total: u64) -> f64
 }
 
 // The trend point of a histogram that has samples.
+#[tactic(auto, unfolding(crate::specs::Trends::point_of))]
 fn point(h: Histogram) -> TrendPoint
     ensures { result ≡ point_of h }
 {
@@ -199,6 +203,7 @@ fn point(h: Histogram) -> TrendPoint
 }
 
 // NO_SAMPLES and three zeros where there is no sample.
+#[tactic(auto, unfolding(crate::specs::Trends::trend_of))]
 pub fn trend_of(h: Histogram) -> Trend
     ensures { result ≡ trend_of h }
 {

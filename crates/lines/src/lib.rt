@@ -65,6 +65,7 @@ fn pair_line(word: &[u8], n: u64, next: &[u8], m: u64) -> Line
 }
 
 // "r N code C"
+#[tactic(auto, unfolding(crate::specs::Text::refusal_line))]
 pub fn refusal_line(n: u64, code: u8) -> Line
     ensures value { result ≡ texts.line_of (texts.refusal_line n code) }
     ensures prefix_len { IsPrefixLen result.length result.octets }
@@ -73,6 +74,7 @@ pub fn refusal_line(n: u64, code: u8) -> Line
 }
 
 // "records A refused B"
+#[tactic(auto, unfolding(crate::specs::Text::summary_line))]
 pub fn summary_line(records: u64, refused: u64) -> Line
     ensures value { result ≡ texts.line_of (texts.summary_line records refused) }
     ensures prefix_len { IsPrefixLen result.length result.octets }
@@ -81,6 +83,7 @@ pub fn summary_line(records: u64, refused: u64) -> Line
 }
 
 // " lo L hi U", where there is a sample.
+#[tactic(auto, unfolding(crate::specs::Text::ends_text))]
 fn put_ends(buf: &mut [u8], at: usize, total: u32, lo: u16, hi: u16) -> usize
     requires { at + 48 ≤ length buf.old }
     ensures written { texts.Written buf.old at (texts.ends_if_any total lo hi) result buf.new }
