@@ -34,6 +34,7 @@ pub fn turn_master(m: Master, w: u16, happening: Happening) -> MasterTurn
 }
 
 // The totals, with the time t of a response that led to a release where it is at most w.
+#[tactic(auto, unfolding(crate::specs::Tallied::tallied_by))]
 pub fn tallied(totals: Totals, w: u16, releases: bool, t: u32) -> Sampled
     ensures { result ≡ tally.tallied_by totals w releases t }
 {
@@ -49,6 +50,7 @@ pub fn tallied(totals: Totals, w: u16, releases: bool, t: u32) -> Sampled
 }
 
 // Whether the time t of a response that led to a release is counted.
+#[tactic(auto, unfolding(crate::specs::Tallied::tallied_by, histogram::specs::Counted::totalled_of))]
 pub fn counts(totals: Totals, w: u16, t: u32) -> bool
     ensures { result ≡ (tally.tallied_by totals w true t).counted }
 {
