@@ -58,6 +58,7 @@ fn spdu_answer(
     refuse(a, !safe_holds, Answer::Buffer)
 }
 
+#[tactic(auto, unfolding(crate::specs::Calls::asked))]
 fn asked(answer: Answer, happening: Happening) -> Act
     ensures { result ≡ calls.asked answer happening }
 {
@@ -68,6 +69,7 @@ fn asked(answer: Answer, happening: Happening) -> Act
     }
 }
 
+#[tactic(auto, unfolding(crate::specs::Calls::asked_by_block))]
 fn asked_by_block(judged: Judged) -> Act
     ensures { result ≡ calls.asked_by_block judged }
 {

@@ -10,6 +10,7 @@ use histogram::BIN_COUNT;
 use scl::Mark;
 
 // A port with no accepted parameters.
+#[tactic(auto, unfolding(crate::specs::Ports::new_port))]
 pub(crate) fn new_port() -> Port
     ensures { result ≡ ports.new_port }
 {
@@ -25,6 +26,7 @@ pub(crate) fn new_port() -> Port
 }
 
 // No port runs.
+#[tactic(auto, unfolding(crate::specs::Ports::new_bench))]
 pub fn new_bench() -> Bench
     ensures { result ≡ ports.new_bench }
 {
@@ -34,6 +36,7 @@ pub fn new_bench() -> Bench
     }
 }
 
+#[tactic(auto, unfolding(crate::specs::Ports::accepted_port))]
 pub(crate) fn accepted_port(p: Port, params: Params, at: u32) -> Port
     ensures { result ≡ ports.accepted_port p params at }
 {
@@ -45,6 +48,7 @@ pub(crate) fn accepted_port(p: Port, params: Params, at: u32) -> Port
 }
 
 // The port with what a turn changes.
+#[tactic(auto, unfolding(crate::specs::Ports::stored))]
 pub(crate) fn stored(p: Port, turned: Turned) -> Port
     ensures { result ≡ ports.stored p turned }
 {
@@ -60,6 +64,7 @@ pub(crate) fn stored(p: Port, turned: Turned) -> Port
 }
 
 // What a call says of a turn.
+#[tactic(auto, unfolding(crate::specs::Ports::said))]
 pub(crate) fn said(turned: Turned) -> Reply
     ensures { result ≡ ports.said turned }
 {
@@ -76,6 +81,7 @@ pub(crate) fn said(turned: Turned) -> Reply
 }
 
 // What a call says that hands on nothing.
+#[tactic(auto, unfolding(crate::specs::Ports::silent))]
 pub(crate) fn silent(answer: Answer) -> Reply
     ensures { result ≡ ports.silent answer }
 {

@@ -19,6 +19,7 @@ fn is_regular_response(setting: Setting, live: Live, at: u32, f: Response) -> bo
 }
 
 // Whether a happening makes such a turn.
+#[tactic(auto, unfolding(crate::specs::Regular::is_regular))]
 pub fn is_regular(setting: Setting, live: Live, happening: Happening) -> bool
     ensures { result ≡ regulars.is_regular setting live happening }
 {
@@ -67,6 +68,7 @@ fn still(live: Live) -> Turned
 }
 
 // That turn; where the happening makes another, nothing that it does.
+#[tactic(auto, unfolding(crate::specs::Regular::regular_of))]
 pub fn regular(setting: Setting, live: Live, happening: Happening) -> Turned
     ensures { result ≡ regulars.regular_of setting live happening }
 {

@@ -15,6 +15,7 @@ use block::Params;
 use scl::Happening;
 use signature::Engine;
 
+#[tactic(auto, unfolding(crate::specs::Ports::port_at, crate::specs::Ports::no_port))]
 pub(crate) fn port_at(b: Bench, port: u8) -> Port
     ensures { result ≡ ports.port_at b port }
 {
@@ -47,6 +48,7 @@ fn refused(b: Bench, answer: Answer) -> BenchAfter
 }
 
 // An accepted block, at the port p in place i.
+#[tactic(auto, unfolding(crate::specs::Calls::done))]
 fn set_up(b: Bench, i: usize, p: Port, at: u32, params: Params) -> BenchAfter
     requires { i < 8 }
     ensures { result ≡ storing.acted b i p at (acts.Accepted params) }
@@ -58,6 +60,7 @@ fn set_up(b: Bench, i: usize, p: Port, at: u32, params: Params) -> BenchAfter
 }
 
 // A happening at the port p in place i.
+#[tactic(auto, unfolding(crate::specs::Calls::done, crate::specs::Ports::step_of))]
 fn stepped(b: Bench, i: usize, p: Port, happening: Happening) -> BenchAfter
     requires { i < 8 }
     ensures { (at : ℕ) → (result ≡ storing.acted b i p at (acts.Happens happening)) }
@@ -70,6 +73,7 @@ fn stepped(b: Bench, i: usize, p: Port, happening: Happening) -> BenchAfter
 }
 
 // An act at the port p in place i, with the reading of its call.
+#[tactic(auto, unfolding(crate::specs::Calls::done))]
 fn acted(b: Bench, i: usize, p: Port, at: u32, act: Act) -> BenchAfter
     requires { i < 8 }
     ensures { result ≡ storing.acted b i p at act }
@@ -83,6 +87,7 @@ fn acted(b: Bench, i: usize, p: Port, at: u32, act: Act) -> BenchAfter
 
 // The same of a call that has no block, so that the last arm is never entered. It stands apart for the compiler, which puts it in line at each of
 // these calls; with the block's arm it would be called, and the bench copied on the way in and out.
+#[tactic(auto, unfolding(crate::specs::Calls::done))]
 fn happened(b: Bench, i: usize, p: Port, act: Act) -> BenchAfter
     requires i_bound { i < 8 }
     requires act_value { storing.has_block act ≡ false }

@@ -106,6 +106,7 @@ fn part_at<'a>(
 }
 
 // The part that was handed on, of the SPDU or of the safe values; empty in a refusal.
+#[tactic(auto, unfolding(crate::specs::Handing::handed_on))]
 pub fn handed_on<'a>(
     engine: Engine,
     b: Bench,

@@ -11,6 +11,7 @@ use answer::Answer;
 use signature::Engine;
 
 // The FS-Master's outgoing image: process octets (zeros where setSD is 1) in an SPDU, other data behind it.
+#[tactic(auto, unfolding(crate::specs::Images::compose_answer, crate::specs::Images::composed))]
 pub fn compose(
     engine: Engine,
     b: Bench,
@@ -42,6 +43,7 @@ pub fn compose(
 }
 
 // The FS-Device's outgoing SPDU; zeros until its first response.
+#[tactic(auto, unfolding(crate::specs::Images::build_answer, crate::specs::Images::response_out))]
 pub fn build_response(engine: Engine, b: Bench, port: u8, process: &[u8], out: &mut [u8]) -> Answer
     ensures value { result ≡ images.build_answer port (port_at b port) process.now out.old }
     ensures out_after { out.new ≡ images.response_out annex_d port (port_at b port) process.now out.old }
@@ -67,6 +69,7 @@ pub fn build_response(engine: Engine, b: Bench, port: u8, process: &[u8], out: &
 }
 
 // TAKEN where the image has the FS-Master's SPDU and the other data.
+#[tactic(auto, unfolding(crate::specs::Images::split_answer))]
 pub fn split(b: Bench, port: u8, octets: &[u8]) -> Answer
     ensures { result ≡ images.split_answer port (port_at b port) octets.now }
 {
@@ -79,6 +82,7 @@ pub fn split(b: Bench, port: u8, octets: &[u8]) -> Answer
     }
 }
 
+#[tactic(auto, unfolding(crate::specs::Images::spdu_part))]
 pub fn spdu_part(b: Bench, port: u8, octets: &[u8]) -> &[u8]
     ensures { result.now ≡ images.spdu_part port (port_at b port) octets.now }
 {
@@ -90,6 +94,7 @@ pub fn spdu_part(b: Bench, port: u8, octets: &[u8]) -> &[u8]
     }
 }
 
+#[tactic(auto, unfolding(crate::specs::Images::other_part))]
 pub fn other_part(b: Bench, port: u8, octets: &[u8]) -> &[u8]
     ensures { result.now ≡ images.other_part port (port_at b port) octets.now }
 {

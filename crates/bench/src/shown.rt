@@ -10,6 +10,7 @@ use crate::{Bench, Bins, DeviceShown, MasterShown, Port};
 use answer::{Answer, refuse};
 use histogram::{Histogram, Trend};
 
+#[tactic(auto, unfolding(crate::specs::Shown::seen))]
 fn seen(port: u8, p: Port) -> Port
     ensures { result ≡ shown.seen port p }
 {
@@ -29,6 +30,7 @@ fn histogram_of(p: Port) -> Histogram
 }
 
 // The trend point; three zeros in a refusal.
+#[tactic(auto, unfolding(crate::specs::Shown::trend_of))]
 pub fn trend_of(b: Bench, port: u8) -> Trend
     ensures { result ≡ shown.trend_of port (port_at b port) }
 {
@@ -46,6 +48,7 @@ pub fn trend_of(b: Bench, port: u8) -> Trend
     }
 }
 
+#[tactic(auto, unfolding(crate::specs::Shown::bins_of))]
 pub fn bins_of(b: Bench, port: u8) -> Bins
     ensures { result ≡ shown.bins_of port (port_at b port) }
 {
@@ -62,6 +65,7 @@ pub fn bins_of(b: Bench, port: u8) -> Bins
 }
 
 // One end of a port is copied by itself, not with all of the port.
+#[tactic(auto, unfolding(crate::specs::Shown::master_of, crate::specs::Shown::seen, crate::specs::Ports::new_port))]
 fn master_at(port: u8, p: Port) -> MasterShown
     ensures { result ≡ shown.master_of port p }
 {
@@ -83,6 +87,7 @@ pub fn master_of(b: Bench, port: u8) -> MasterShown
     master_at(port, port_at(b, port))
 }
 
+#[tactic(auto, unfolding(crate::specs::Shown::device_of, crate::specs::Shown::seen, crate::specs::Ports::new_port))]
 fn device_at(port: u8, p: Port) -> DeviceShown
     ensures { result ≡ shown.device_of port p }
 {

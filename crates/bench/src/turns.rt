@@ -41,6 +41,7 @@ pub fn begun(live: Live, at: u32) -> Live
 }
 
 // A happening at a port.
+#[tactic(auto, unfolding(crate::specs::Ports::turn_of))]
 pub fn turn(setting: Setting, live: Live, happening: Happening) -> Turned
     ensures { result ≡ ports.turn_of setting live happening }
 {

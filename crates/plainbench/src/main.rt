@@ -12,6 +12,6 @@ fn engine() -> Engine
     Engine::Shift
 }
 
-fn main() {
-    session_program::run(engine(), b"plainbench: standard input cannot be read\n");
+fn main(rt: HostRuntime) {
+    session_program::run(rt.stdin(), rt.stdout(), rt.stderr(), engine(), b"plainbench: standard input cannot be read\n");
 }

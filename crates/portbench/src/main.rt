@@ -11,6 +11,6 @@ fn engine() -> Engine
     Engine::Table
 }
 
-fn main() {
-    session_program::run(engine(), b"portbench: standard input cannot be read\n");
+fn main(rt: HostRuntime) {
+    session_program::run(rt.stdin(), rt.stdout(), rt.stderr(), engine(), b"portbench: standard input cannot be read\n");
 }

@@ -1,5 +1,6 @@
 -- Method, but for `Ran` and `Ended`: what a session program makes of the octets that it reads, chunk by chunk, and what it keeps of them. Assumes nothing.
-use Rattle.std.specs.Prelude.{ℕ, suc, ◌+◌, ◌<◌, ◌≡◌, false, List, ◌++◌, ℤ, pos, negsuc, length, take, drop}
+use Rattle.std.specs.Prelude.{ℕ, suc, ◌+◌, ◌<◌, ◌≡◌, false, List, ◌++◌, Result, Ok, Err, length, take, drop}
+use Rattle.std.specs.declared.io.Error.{Error}
 use Rattle.record.specs.Format.{Form, nothing, part, bad, whole, form, most_octets}
 use Rattle.session.specs.declared.State.{State}
 use Rattle.session.specs.Run.{Entry, is_whole, records_of, rest_of, start, ran, lines_of, printed}
@@ -41,14 +42,14 @@ pub data Used (st : State) (s : List ℕ) (r : Chunk) (buf : List ℕ) : Type 0 
   used : r ≡ chunk_of st s → is_whole (form (left_of s)) ≡ false → take r.left buf ≡ left_of s → (r.going ≡ On → r.left < most_octets) → Used st s r buf
 
 -- The same after what `read` answered, with its octets behind those that are left from the last chunk. None are the end of the input.
-pub data Brought (last : Chunk) (got : ℤ) (buf : List ℕ) (r : Chunk) (buf' : List ℕ) : Type 0 where
-  unread : (k : ℕ) → got ≡ negsuc k → r ≡ stopped last.state → Brought last got buf r buf'
-  none : got ≡ pos 0 → r ≡ record { state = last.state; left = last.left; going = Over } → Brought last got buf r buf'
-  some : (n : ℕ) → got ≡ pos (suc n) → Used last.state (take (last.left + suc n) buf) r buf' → Brought last got buf r buf'
+pub data Brought (last : Chunk) (got : Result ℕ Error) (buf : List ℕ) (r : Chunk) (buf' : List ℕ) : Type 0 where
+  unread : (e : Error) → got ≡ Err e → r ≡ stopped last.state → Brought last got buf r buf'
+  none : got ≡ Ok 0 → r ≡ record { state = last.state; left = last.left; going = Over } → Brought last got buf r buf'
+  some : (n : ℕ) → got ≡ Ok (suc n) → Used last.state (take (last.left + suc n) buf) r buf' → Brought last got buf r buf'
 
 -- The same after a read that had room for an octet. No contract says what it answered and which octets it brought; those that were kept are left.
 pub data Read (last : Chunk) (kept : List ℕ) (r : Chunk) (buf' : List ℕ) : Type 0 where
-  read : (got : ℤ) (buf : List ℕ) → last.left < length buf → take last.left buf ≡ kept → Brought last got buf r buf' → Read last kept r buf'
+  read : (got : Result ℕ Error) (buf : List ℕ) → last.left < length buf → take last.left buf ≡ kept → Brought last got buf r buf' → Read last kept r buf'
 
 -- before the first read
 abbrev pub first : Chunk

@@ -4,15 +4,15 @@
 // chunk.
 #![tactic(auto)]
 
-ghost use Rattle.std.specs.Prelude.{◌≡◌, ◌-◌, ◌<◌, ◌≤◌, ltb, length, take};
-ghost use Rattle.libc.specs.Io.{Moved};
+ghost use Rattle.std.specs.Prelude.{◌≡◌, ◌-◌, ◌<◌, ◌≤◌, ltb, length, take, IfOk};
 ghost use Rattle.record.specs.Format.{most_octets};
 ghost use Rattle.session.specs.Run as runs;
 ghost use Rattle.session_program.specs.Kept as kept;
 
-use libc::{STDERR_FILENO, STDIN_FILENO, STDOUT_FILENO};
 use session::{State, Stop};
 use signature::Engine;
+use std::io;
+use std::io::{Print, Read, Stderr, Stdin, Stdout};
 
 // Where a chunk leaves the run, and at its end the run itself.
 #[derive(Clone, Copy)]
@@ -63,7 +63,14 @@ fn keep(state: State, buf: &mut [u8], from: usize, to: usize, going: Going) -> C
 
 // Uses the whole records of buf's octets before `to`, and copies what is left to the front. A call of `feed` that is out of room has used a
 // record at least, since there is room for a line.
-fn use_records(engine: Engine, st: State, buf: &mut [u8], to: usize, out: &mut [u8]) -> Chunk
+fn use_records(
+    output: Stdout,
+    engine: Engine,
+    st: State,
+    buf: &mut [u8],
+    to: usize,
+    out: &mut [u8],
+) -> Chunk
     requires to_in_bounds { to ≤ length buf.old }
     requires line_room_in_bounds { runs.line_room ≤ length out.old }
     ensures { kept.Used st (take to buf.old) result buf.new }
@@ -77,7 +84,7 @@ fn use_records(engine: Engine, st: State, buf: &mut [u8], to: usize, out: &mut [
         let stop = fed.stop;
         state = fed.state;
         from += used;
-        if !io::write_all(STDOUT_FILENO, &out[..written]) {
+        if output.write_all(&out[..written]).is_err() {
             return after(st, 0, Going::Stopped);
         }
         match stop {
@@ -97,33 +104,41 @@ fn use_records(engine: Engine, st: State, buf: &mut [u8], to: usize, out: &mut [
 
 // What `read` answered after it put octets behind those that are left from the last chunk. There was room for one, so none are the end.
 fn use_read(
+    output: Stdout,
+    errors: Stderr,
     engine: Engine,
     unreadable: &[u8],
     last: Chunk,
     buf: &mut [u8],
-    got: isize,
+    got: io::Result<usize>,
     out: &mut [u8],
 ) -> Chunk
     requires left_in_bounds { last.left < length buf.old }
-    requires moved { Moved (length buf.old - last.left) got }
+    requires moved { IfOk got (λ n. n ≤ length buf.old - last.left) }
     requires line_room_in_bounds { runs.line_room ≤ length out.old }
     ensures { kept.Brought last got buf.old result buf.new }
 {
     let state = last.state;
     let have = last.left;
-    if got < 0 {
-        io::write_all(STDERR_FILENO, unreadable);
-        return after(state, 0, Going::Stopped);
+    match got {
+        Err(_) => {
+            let _ = errors.write_all(unreadable);
+            after(state, 0, Going::Stopped)
+        }
+        Ok(n) => {
+            if n == 0 {
+                return after(state, have, Going::Over);
+            }
+            use_records(output, engine, state, buf, have + n, out)
+        }
     }
-    let n = io::count(got, &buf[have..]);
-    if n == 0 {
-        return after(state, have, Going::Over);
-    }
-    use_records(engine, state, buf, have + n, out)
 }
 
 // One read, behind the octets that are left from the last.
 fn read_chunk(
+    input: Stdin,
+    output: Stdout,
+    errors: Stderr,
     engine: Engine,
     unreadable: &[u8],
     last: Chunk,
@@ -135,21 +150,30 @@ fn read_chunk(
     ensures { kept.Read last (take last.left buf.old) result buf.new }
 {
     let have = last.left;
-    let got = libc::read(STDIN_FILENO, &mut buf[have..]);
-    use_read(engine, unreadable, last, buf, got, out)
+    let mut reader = input;
+    let got = reader.read(&mut buf[have..]);
+    use_read(output, errors, engine, unreadable, last, buf, got, out)
 }
 
 // Where octets are left, they are a 13.
-fn finish(last: Chunk, out: &mut [u8])
+fn finish(output: Stdout, last: Chunk, out: &mut [u8])
     ensures { out.new ≡ runs.fronted (runs.finish_text last.state (ltb 0 last.left) (length out.old)) out.old }
 {
     let n = session::finish(last.state, last.left > 0, out);
-    io::write_all(STDOUT_FILENO, &out[..n]);
+    let _ = output.write_all(&out[..n]);
 }
 
 // Nothing says that the input ends, and a loop has to: so it counts its turns down, from a number that no run uses up. The last chunk is
 // returned so that the contract can speak of it.
-fn run_in(engine: Engine, unreadable: &[u8], buf: &mut [u8], out: &mut [u8]) -> Chunk
+fn run_in(
+    input: Stdin,
+    output: Stdout,
+    errors: Stderr,
+    engine: Engine,
+    unreadable: &[u8],
+    buf: &mut [u8],
+    out: &mut [u8],
+) -> Chunk
     requires most_octets_in_bounds { most_octets ≤ length buf.old }
     requires closing_room_in_bounds { runs.closing_room ≤ length out.old }
     ensures { kept.Ran result buf.new out.new }
@@ -158,12 +182,12 @@ fn run_in(engine: Engine, unreadable: &[u8], buf: &mut [u8], out: &mut [u8]) -> 
     let mut turns = u64::MAX;
     while turns > 0 {
         turns -= 1;
-        last = read_chunk(engine, unreadable, last, buf, out);
+        last = read_chunk(input, output, errors, engine, unreadable, last, buf, out);
         let going = last.going;
         match going {
             Going::On => {}
             Going::Over => {
-                finish(last, out);
+                finish(output, last, out);
                 return last;
             }
             Going::Stopped => {
@@ -175,11 +199,17 @@ fn run_in(engine: Engine, unreadable: &[u8], buf: &mut [u8], out: &mut [u8]) -> 
 }
 
 // Runs a session, with the signatures by `engine`, and says how it ended. `unreadable` goes to standard error where standard input cannot be read.
-pub fn run(engine: Engine, unreadable: &[u8]) -> Going
+pub fn run(
+    input: Stdin,
+    output: Stdout,
+    errors: Stderr,
+    engine: Engine,
+    unreadable: &[u8],
+) -> Going
     ensures { kept.Ended result }
 {
     let mut buf = [0u8; 65536];
     let mut out = [0u8; 262144];
-    let last = run_in(engine, unreadable, &mut buf, &mut out);
+    let last = run_in(input, output, errors, engine, unreadable, &mut buf, &mut out);
     last.going
 }
