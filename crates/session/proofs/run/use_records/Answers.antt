@@ -1,0 +1,111 @@
+-- `session::run::use_records` meets its contract. Assumes nothing.
+use Rattle.std.proofs.Common.{◌≡◌, ◌⊎◌, ℕ, ◌+◌, ◌-◌, ◌*◌, false, List, [], ◌∷◌, length, drop, set, sym, refl, ap, ◌∙◌, inl, inr, arith}
+use Rattle.bench.specs.declared.Setting.{Setting}
+use Rattle.bench.specs.declared.Live.{Live}
+use Rattle.bench.specs.declared.Act.{Act}
+use Rattle.bench.specs.Ports.{no_port}
+use Rattle.bench.proofs.Engines.{right_methods}
+use Rattle.bench.proofs.Acted.{answer_in, refused, accepted, happened}
+use Rattle.bench.proofs.Regulars.{regular_turn}
+use Rattle.bench.proofs.Raised.{below}
+use Rattle.record.specs.declared.Record.TheVariants.{Whole}
+use Rattle.record.specs.Format.{Form, nothing, part, bad, whole, form, record_by}
+use Rattle.record.proofs.Form.{whole_found}
+use Rattle.session.specs.Run.{is_whole, refused_after}
+use Rattle.lines.proofs.Written.{none}
+use Rattle.session.proofs.Link.{stopped}
+use Rattle.session.proofs.Going.{goes_on}
+use Rattle.session.proofs.run.use_records.Goals as goal
+use Rattle.session.proofs.run.use_records.Goals.{then-left-eq0, else-left-eq0+in_default}
+
+-- what is read where the loop is left is no whole record
+not_whole : (f : Form) (s : List ℕ) (p : ℕ) → ((kind port clock start next : ℕ) → record_by f s p ≡ Whole kind port clock start next → ⊥) → is_whole f ≡ false
+not_whole nothing s p o = refl
+not_whole part s p o = refl
+not_whole bad s p o = refl
+not_whole whole s p o = absurd (o _ _ _ _ _ refl)
+
+pub loop-left-preserved-in-Refused : goal.loop-left-preserved-in-Refused
+unfolding no_port
+loop-left-preserved-in-Refused c =
+    let x = c.args in
+    let l = c.loop-left in
+    let s = drop l.at x.s.now in
+    let f = whole_found (form s) s l.at _ _ _ _ _ (sym c.read_record.ensures ∙ c.in-Whole.is) in
+    let p = c.place_of-place in
+    let tables = right_methods x.engine c.table16_for-short.result c.table32_for-long.result c.table16_for-short.ensures.serves c.table32_for-long.ensures.serves in
+    let e = c.in-Refused.is in
+    let said = c.say-written in
+    goes_on l.invariant (omega (arith, c.if-left-eq0.false)) f p.ensures.0 p.ensures.1 no_port.setting no_port.live tables c.act_of-act.ensures
+    (refused _ _ _ _ _ l.invariant.eight p.ensures.1 no_port.setting no_port.live e refl refl refl)
+    (c.refused_after-refused.ensures ∙ ap (λ (a : Act). refused_after l.refused (answer_in a)) (sym e))
+    (rw (← c.plus.ensures, e) said.ensures.written) said.ensures.upper_bound (omega (arith, said.auto))
+
+pub loop-left-preserved-in-Accepted : goal.loop-left-preserved-in-Accepted
+unfolding no_port
+loop-left-preserved-in-Accepted c =
+    let x = c.args in
+    let l = c.loop-left in
+    let s = drop l.at x.s.now in
+    let f = whole_found (form s) s l.at _ _ _ _ _ (sym c.read_record.ensures ∙ c.in-Whole.is) in
+    let p = c.place_of-place in
+    let tables = right_methods x.engine c.table16_for-short.result c.table32_for-long.result c.table16_for-short.ensures.serves c.table32_for-long.ensures.serves in
+    let e = c.in-Accepted.is in
+    goes_on l.invariant (omega (arith, c.if-left-eq0.false)) f p.ensures.0 p.ensures.1 no_port.setting no_port.live tables c.act_of-act.ensures
+    (accepted _ _ _ _ _ l.invariant.eight p.ensures.1 no_port.setting no_port.live e
+    (ap (λ (y : Setting). set l.settings p.result.index y) c.accepted-accepted.ensures)
+    (ap (λ (y : Live). set l.lives p.result.index y) c.begun-begun.ensures) refl)
+    (ap (λ (a : Act). refused_after l.refused (answer_in a)) (sym e))
+    (rw e (none _ _)) (omega arith) refl
+
+pub raise-requires-clause-is_bin : goal.raise-requires-clause-is_bin
+raise-requires-clause-is_bin c =
+    let regular = sym c.is_regular.ensures ∙ c.if-is_regular.true in
+    below _ _ _ (c.regular-turned.ensures ∙ regular_turn _ _ _ regular)
+
+pub loop-left-preserved-then-is_regular : goal.loop-left-preserved-then-is_regular
+unfolding no_port
+loop-left-preserved-then-is_regular c =
+    let x = c.args in
+    let l = c.loop-left in
+    let s = drop l.at x.s.now in
+    let f = whole_found (form s) s l.at _ _ _ _ _ (sym c.read_record.ensures ∙ c.in-Whole.is) in
+    let p = c.place_of-place in
+    let tables = right_methods x.engine c.table16_for-short.result c.table32_for-long.result c.table16_for-short.ensures.serves c.table32_for-long.ensures.serves in
+    let e = c.in-Happens.is in
+    goes_on l.invariant (omega (arith, c.if-left-eq0.false)) f p.ensures.0 p.ensures.1 no_port.setting no_port.live tables c.act_of-act.ensures
+    (happened _ _ _ _ _ l.invariant.eight p.ensures.1 no_port.setting no_port.live _ _ (c.regular-turned.ensures ∙ regular_turn _ _ _ (sym c.is_regular.ensures ∙ c.if-is_regular.true)) e refl refl c.raise.ensures)
+    (ap (λ (a : Act). refused_after l.refused (answer_in a)) (sym e))
+    (rw e (none _ _)) (omega arith) refl
+
+pub raise-requires-else-is_regular-clause-is_bin : goal.raise-requires-else-is_regular-clause-is_bin
+raise-requires-else-is_regular-clause-is_bin c = below _ _ _ c.turn-turned.ensures
+
+pub loop-left-preserved : goal.loop-left-preserved
+unfolding no_port
+loop-left-preserved c =
+    let x = c.args in
+    let l = c.loop-left in
+    let s = drop l.at x.s.now in
+    let f = whole_found (form s) s l.at _ _ _ _ _ (sym c.read_record.ensures ∙ c.in-Whole.is) in
+    let p = c.place_of-place in
+    let tables = right_methods x.engine c.table16_for-short.result c.table32_for-long.result c.table16_for-short.ensures.serves c.table32_for-long.ensures.serves in
+    let e = c.in-Happens.is in
+    goes_on l.invariant (omega (arith, c.if-left-eq0.false)) f p.ensures.0 p.ensures.1 no_port.setting no_port.live tables c.act_of-act.ensures
+    (happened _ _ _ _ _ l.invariant.eight p.ensures.1 no_port.setting no_port.live _ _ c.turn-turned.ensures e refl refl c.raise-else-is_regular.ensures)
+    (ap (λ (a : Act). refused_after l.refused (answer_in a)) (sym e))
+    (rw e (none _ _)) (omega arith) refl
+
+pub returns : goal.returns
+returns c =
+    let x = c.args in
+    let l = c.loop-left in
+    let s = drop l.at x.s.now in
+    let e : (l.left ≡ 0) ⊎ (is_whole (form s) ≡ false) =
+    elim c.if-left-eq0.branch [
+      then-left-eq0 w ↦ inl w.if-left-eq0.true
+      | else-left-eq0+in_default w ↦ inr (not_whole (form s) s l.at (λ k q t i j h. w.in_default.not-Whole k q t i j (w.read_record.ensures ∙ h)))
+    ] in
+    let p = stopped l.invariant.link refl l.invariant.within (omega (arith, l.invariant.kept, l.invariant.fits)) e in
+    rw (c.packed.ensures, c.plus-2.ensures, c.stop_at.ensures)
+    (record { value = p.0; out_after = p.1.0; used_in_bounds = p.1.1.0; prefix_len = p.1.1.1 })
