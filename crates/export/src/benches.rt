@@ -222,6 +222,7 @@ pub extern "C" fn whakelouna_split(bench: Bench, port: u8, octets: &[u8]) -> Spl
     }
 }
 
+#[tactic(auto, unfolding(crate::specs::Benches::mark_numbered))]
 fn mark_numbered(number: u8) -> Mark
     ensures { result ≡ told.mark_numbered number }
 {

@@ -5,14 +5,11 @@ use mathlib.Core.Path.{◌≡◌, refl, sym, ap, ◌∙◌}
 use mathlib.Core.Bool.{true, false, not}
 use mathlib.Core.List.{List, [], ◌++◌}
 use lib.Dec.{eqb, ltb}
-use lib.IntN.{ℤ, pos, negsuc}
-use lib.Signed.{lt_z}
 use lib.ListN.{length, take, drop}
 use lib.Seq.{take-append_seam, take-add}
 use borrow.Author.Tests.{ltb-true, lt-ltb, le-ltb, ne_eqb}
-use borrow.Rule.Slice.PartMut.{mid_of, mid_len}
-use Rattle.libc.specs.Io.{Moved}
-use Rattle.io.specs.Counts.{clamp_len}
+use Rattle.std.specs.Prelude.{Result, Ok, Err}
+use Rattle.std.specs.declared.io.Error.{Error}
 use Rattle.record.specs.Format.{form, most_octets}
 use Rattle.session.specs.declared.State.{State}
 use Rattle.session.specs.Run.{Entry, is_whole, start, ran, printed, closing, closing_room, finish_text, fronted, printed_by}
@@ -42,37 +39,16 @@ use Rattle.session_program.specs.Kept.{
   Ran,
 }
 
--- ---- What `read` answered, which the machine reads back from its bits as got'
+-- ---- What `read` answered
 
-module _ {last r : Chunk} {buf buf' : List ℕ} where
-  below : (got : ℤ) → lt_z got (pos 0) ≡ true → r ≡ stopped last.state → Brought last got buf r buf'
-  below (pos k) e h = absurd (omega (arith, ltb-true k 0 e))
-  below (negsuc k) e h = unread k refl h
+module _ {last r : Chunk} {buf buf' : List ℕ} {got : Result ℕ Error} (n : ℕ) (is : got ≡ Ok n) where
+  pub at_zero : n ≡ 0 → r ≡ record { state = last.state; left = last.left; going = Over } → Brought last got buf r buf'
+  at_zero z h = none (is ∙ ap Ok z) h
 
-  pub below-zero : {got got' : ℤ} → got' ≡ got → lt_z got' (pos 0) ≡ true → r ≡ stopped last.state → Brought last got buf r buf'
-  below-zero {got} same e h = below got (rw same at e) h
-
-  module _ (n : ℕ) where
-    at : (got : ℤ) → lt_z got (pos 0) ≡ false → Moved (length buf - last.left) got
-        → n ≡ clamp_len got (length (mid_of last.left (length buf - last.left) buf)) → n ≡ 0
-        → r ≡ record { state = last.state; left = last.left; going = Over } → Brought last got buf r buf'
-    at (pos k) e m c z h = let k0 : k ≡ 0 = omega (arith, mid_len last.left (length buf) buf (omega arith)) in none (ap pos k0) h
-    at (negsuc k) e m c z h = let y : ◌≡◌ {A = ℕ} 0 1 = cc in absurd (omega arith)
-
-    above : (got : ℤ) → lt_z got (pos 0) ≡ false → Moved (length buf - last.left) got
-        → n ≡ clamp_len got (length (mid_of last.left (length buf - last.left) buf)) → 0 < n
-        → Used last.state (take (last.left + n) buf) r buf' → Brought last got buf r buf'
-    above (pos zero) e m c z h = absurd (omega arith)
-    above (pos (suc k)) e m c z h = let same : n ≡ suc k = omega (arith, mid_len last.left (length buf) buf (omega arith)) in some k refl (rw same at h)
-    above (negsuc k) e m c z h = let y : ◌≡◌ {A = ℕ} 0 1 = cc in absurd (omega arith)
-
-    module _ {got got' : ℤ} (same : got' ≡ got) (e : lt_z got' (pos 0) ≡ false) (m : Moved (length buf - last.left) got)
-        (c : n ≡ clamp_len got' (length (mid_of last.left (length buf - last.left) buf))) where
-      pub at_zero : n ≡ 0 → r ≡ record { state = last.state; left = last.left; going = Over } → Brought last got buf r buf'
-      at_zero = at got (rw same at e) m (rw same at c)
-
-      pub above_zero : 0 < n → Used last.state (take (last.left + n) buf) r buf' → Brought last got buf r buf'
-      above_zero = above got (rw same at e) m (rw same at c)
+  pub above_zero : (n ≡ 0 → ⊥) → Used last.state (take (last.left + n) buf) r buf' → Brought last got buf r buf'
+  above_zero z h =
+      let e : n ≡ suc (n - 1) = omega arith in
+      some (n - 1) (is ∙ ap Ok e) (rw e at h)
 
 -- ---- One read after the other
 
