@@ -1,6 +1,5 @@
 -- A loop over a printed table that counts the entries that differ. Assumes nothing.
 use Rattle.std.proofs.Common.{◌≡◌, ℕ, ◌+◌, ◌<◌, ◌≤◌, cond, eqb, List, get_or, refl, ap, ◌∙◌, ap₂, add-one, arith}
-use Rattle.vectors.specs.declared.signatures.Compared.{Compared}
 use Rattle.vectors.specs.Compared.{divided, differ_among, compared_all}
 
 -- all entries before i are compared, and `differ` of them differ

@@ -1,6 +1,7 @@
 // Parameter blocks (000 Table 22) and document 01's answers to them. Each is a good block with a change.
 use crate::print::{answered, decimal, text};
 use signature::Engine;
+use std::io::Stdout;
 
 // SAFETYCOM at port 1 with the short signature: no other data, and one octet of bits each way. Signatures are left 0.
 const SAFETYCOM: [u8; 48] = [
@@ -167,10 +168,19 @@ fn signed(engine: Engine, block: [u8; 48]) -> [u8; 48] {
     with(block, 36, (prot_par % 256) as u8)
 }
 
-fn judged(engine: Engine, name: &[u8], octets: &[u8], port: u8, number: u8, offset: u8) {
+fn judged(
+    output: Stdout,
+    engine: Engine,
+    name: &[u8],
+    octets: &[u8],
+    port: u8,
+    number: u8,
+    offset: u8,
+) {
     let judged = block::judge(engine, octets, port);
     let answer = judged.answer;
     answered(
+        output,
         name,
         answer::number(answer),
         answer::offset(answer),
@@ -179,11 +189,11 @@ fn judged(engine: Engine, name: &[u8], octets: &[u8], port: u8, number: u8, offs
     );
 }
 
-fn octet_line(at: usize, octet: u8) {
-    text(b"octet ");
-    decimal(at as u64);
-    text(b" is ");
-    decimal(octet as u64);
+fn octet_line(output: Stdout, at: usize, octet: u8) {
+    text(output, b"octet ");
+    decimal(output, at as u64);
+    text(output, b" is ");
+    decimal(output, octet as u64);
 }
 
 fn block_with(engine: Engine, at: usize, octet: u8, signed_before: bool) -> [u8; 48] {
@@ -194,25 +204,25 @@ fn block_with(engine: Engine, at: usize, octet: u8, signed_before: bool) -> [u8;
     }
 }
 
-fn changed(engine: Engine, name: &[u8], row: u64, signed_before: bool) {
+fn changed(output: Stdout, engine: Engine, name: &[u8], row: u64, signed_before: bool) {
     let at = (row / 10000000) as usize;
     let octet = (row / 10000 % 1000 % 256) as u8;
     let number = (row / 100 % 100) as u8;
     let offset = (row % 100) as u8;
     let block = block_with(engine, at, octet, signed_before);
-    octet_line(at, octet);
-    judged(engine, name, &block, 1, number, offset);
+    octet_line(output, at, octet);
+    judged(output, engine, name, &block, 1, number, offset);
 }
 
-fn all_changed(engine: Engine, name: &[u8], rows: &[u64], signed_before: bool) {
+fn all_changed(output: Stdout, engine: Engine, name: &[u8], rows: &[u64], signed_before: bool) {
     let mut i = 0;
     while i < rows.len() {
-        changed(engine, name, rows[i], signed_before);
+        changed(output, engine, name, rows[i], signed_before);
         i += 1;
     }
 }
 
-fn length(engine: Engine, name: &[u8], row: u64, block: [u8; 48]) {
+fn length(output: Stdout, engine: Engine, name: &[u8], row: u64, block: [u8; 48]) {
     let at = (row / 100000000 % 100) as usize;
     let length = (row / 1000000 % 100) as u8;
     let octets = (row / 10000 % 100) as u8;
@@ -220,62 +230,72 @@ fn length(engine: Engine, name: &[u8], row: u64, block: [u8; 48]) {
     let offset = (row % 100) as u8;
     let block = with(with(block, at, length), at + 1, 0);
     let block = signed(engine, with(block, at + 2, octets));
-    octet_line(at, length);
-    text(b" with process octets ");
-    decimal(octets as u64);
-    judged(engine, name, &block, 1, number, offset);
+    octet_line(output, at, length);
+    text(output, b" with process octets ");
+    decimal(output, octets as u64);
+    judged(output, engine, name, &block, 1, number, offset);
 }
 
-fn all_lengths(engine: Engine, name: &[u8], rows: &[u64], block: [u8; 48]) {
+fn all_lengths(output: Stdout, engine: Engine, name: &[u8], rows: &[u64], block: [u8; 48]) {
     let mut i = 0;
     while i < rows.len() {
-        length(engine, name, rows[i], block);
+        length(output, engine, name, rows[i], block);
         i += 1;
     }
 }
 
-fn good(engine: Engine, name: &[u8], block: [u8; 48]) {
+fn good(output: Stdout, engine: Engine, name: &[u8], block: [u8; 48]) {
     let block = signed(engine, block);
-    judged(engine, name, &block, 1, 0, 0);
+    judged(output, engine, name, &block, 1, 0, 0);
 }
 
-fn modes(engine: Engine, short: [u8; 48], long: [u8; 48]) {
-    good(engine, b"SAFETYCOM, 16 bits", short);
-    good(engine, b"SAFETYCOM, 32 bits", long);
-    good(engine, b"MIXEDSAFETYCOM, 16 bits", with(short, 2, 50));
-    good(engine, b"MIXEDSAFETYCOM, 32 bits", with(long, 2, 50));
+fn modes(output: Stdout, engine: Engine, short: [u8; 48], long: [u8; 48]) {
+    good(output, engine, b"SAFETYCOM, 16 bits", short);
+    good(output, engine, b"SAFETYCOM, 32 bits", long);
+    good(
+        output,
+        engine,
+        b"MIXEDSAFETYCOM, 16 bits",
+        with(short, 2, 50),
+    );
+    good(
+        output,
+        engine,
+        b"MIXEDSAFETYCOM, 32 bits",
+        with(long, 2, 50),
+    );
 }
 
 // 01, "Numbers to try" and "The session program".
-fn known(engine: Engine) {
-    good(engine, b"n 27, m 5", with(SAFETYCOM, 12, 27));
+fn known(output: Stdout, engine: Engine) {
+    good(output, engine, b"n 27, m 5", with(SAFETYCOM, 12, 27));
     let block = signed(engine, with(SAFETYCOM, 12, 28));
-    judged(engine, b"n 28, m 5", &block, 1, 5, 38);
-    judged(engine, b"48 zero octets", &[0u8; 48], 1, 2, 0);
+    judged(output, engine, b"n 28, m 5", &block, 1, 5, 38);
+    judged(output, engine, b"48 zero octets", &[0u8; 48], 1, 2, 0);
 }
 
-fn sizes_and_ports(engine: Engine) {
-    judged(engine, b"no octets", b"", 1, 1, 0);
-    judged(engine, b"47 zero octets", &[0u8; 47], 1, 1, 0);
-    judged(engine, b"49 zero octets", &[0u8; 49], 1, 1, 0);
+fn sizes_and_ports(output: Stdout, engine: Engine) {
+    judged(output, engine, b"no octets", b"", 1, 1, 0);
+    judged(output, engine, b"47 zero octets", &[0u8; 47], 1, 1, 0);
+    judged(output, engine, b"49 zero octets", &[0u8; 49], 1, 1, 0);
     let block = signed(engine, SAFETYCOM);
-    judged(engine, b"port 0", &block, 0, 8, 0);
-    judged(engine, b"port 9", &block, 9, 8, 0);
-    judged(engine, b"port 2, FSP_Port 1", &block, 2, 12, 0);
+    judged(output, engine, b"port 0", &block, 0, 8, 0);
+    judged(output, engine, b"port 9", &block, 9, 8, 0);
+    judged(output, engine, b"port 2, FSP_Port 1", &block, 2, 12, 0);
 }
 
-pub(crate) fn run(engine: Engine) {
+pub(crate) fn run(output: Stdout, engine: Engine) {
     // The long signature has two octets more.
     let long = with(with(with(SAFETYCOM, 26, 2), 38, 7), 43, 7);
-    modes(engine, SAFETYCOM, long);
-    known(engine);
-    sizes_and_ports(engine);
+    modes(output, engine, SAFETYCOM, long);
+    known(output, engine);
+    sizes_and_ports(output, engine);
     let rows = UNDER_RIGHT_SIGNATURES;
-    all_changed(engine, b"", &rows, false);
+    all_changed(output, engine, b"", &rows, false);
     let rows = UNDER_EARLIER_SIGNATURES;
-    all_changed(engine, b" under earlier signatures", &rows, true);
+    all_changed(output, engine, b" under earlier signatures", &rows, true);
     let rows = LENGTHS_16;
-    all_lengths(engine, b", 16 bits", &rows, SAFETYCOM);
+    all_lengths(output, engine, b", 16 bits", &rows, SAFETYCOM);
     let rows = LENGTHS_32;
-    all_lengths(engine, b", 32 bits", &rows, long);
+    all_lengths(output, engine, b", 32 bits", &rows, long);
 }

@@ -12,19 +12,21 @@ mod spdus;
 
 use print::text;
 use signature::Engine;
+use std::io::Stdout;
 
-fn signed_by(engine: Engine) {
-    signatures::run(engine);
-    blocks::run(engine);
-    spdus::run(engine);
+fn signed_by(output: Stdout, engine: Engine) {
+    signatures::run(output, engine);
+    blocks::run(output, engine);
+    spdus::run(output, engine);
 }
 
-fn main() {
-    text(b"signed by the look-up\n");
-    signed_by(Engine::Table);
-    text(b"signed by the bit shift\n");
-    signed_by(Engine::Shift);
-    text(b"with no signature\n");
-    histograms::run();
-    machines::run();
+fn main(rt: HostRuntime) {
+    let output = rt.stdout();
+    text(output, b"signed by the look-up\n");
+    signed_by(output, Engine::Table);
+    text(output, b"signed by the bit shift\n");
+    signed_by(output, Engine::Shift);
+    text(output, b"with no signature\n");
+    histograms::run(output);
+    machines::run(output);
 }

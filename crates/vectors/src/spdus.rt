@@ -3,6 +3,7 @@ use crate::print::{compared, octets};
 use answer::Answer;
 use block::Params;
 use signature::Engine;
+use std::io::Stdout;
 
 // MCount 5, ChFAckReq 1.
 const REQUEST_16: [u8; 7] = [0x12, 0x34, 0x56, 0x03, 0xA1, 0xD4, 0x9E];
@@ -61,41 +62,41 @@ fn response(
     );
 }
 
-fn requests(engine: Engine) {
+fn requests(output: Stdout, engine: Engine) {
     let mut out = [0u8; 7];
     request(engine, params(1, 7), false, true, &mut out);
     let paper = REQUEST_16;
-    octets(b"request, 16 bits", &out, &paper);
+    octets(output, b"request, 16 bits", &out, &paper);
     request(engine, params(1, 7), true, false, &mut out);
     let paper = SAFE_REQUEST;
-    octets(b"request with setSD, 16 bits", &out, &paper);
+    octets(output, b"request with setSD, 16 bits", &out, &paper);
     let mut out = [0u8; 9];
     request(engine, params(2, 9), false, true, &mut out);
     let paper = REQUEST_32;
-    octets(b"request, 32 bits", &out, &paper);
+    octets(output, b"request, 32 bits", &out, &paper);
 }
 
-fn responses(engine: Engine) {
+fn responses(output: Stdout, engine: Engine) {
     let process = [0x12u8, 0x34, 0x56];
     let mut out = [0u8; 7];
     response(engine, params(1, 7), 2, true, true, &process, &mut out);
     let paper = RESPONSE_16;
-    octets(b"response, 16 bits", &out, &paper);
+    octets(output, b"response, 16 bits", &out, &paper);
     let mut out = [0u8; 9];
     response(engine, params(2, 9), 2, true, true, &process, &mut out);
     let paper = RESPONSE_32;
-    octets(b"response, 32 bits", &out, &paper);
+    octets(output, b"response, 32 bits", &out, &paper);
 }
 
-fn zero_replaced(engine: Engine) {
+fn zero_replaced(output: Stdout, engine: Engine) {
     let process = [0x00u8, 0x03, 0x3A];
     let mut out = [0u8; 7];
     response(engine, params(1, 7), 4, false, true, &process, &mut out);
     let paper = GENERATOR;
-    octets(b"response that computes 4EAB", &out, &paper);
+    octets(output, b"response that computes 4EAB", &out, &paper);
     response(engine, params(1, 7), 4, false, false, &process, &mut out);
     let paper = REPLACED;
-    octets(b"response that computes 0", &out, &paper);
+    octets(output, b"response that computes 0", &out, &paper);
 }
 
 fn with_other_data(p: Params) -> Params {
@@ -105,89 +106,103 @@ fn with_other_data(p: Params) -> Params {
     p
 }
 
-fn answered(name: &[u8], answer: Answer, paper: u64) {
-    compared(name, answer::number(answer) as u64, paper);
+fn answered(output: Stdout, name: &[u8], answer: Answer, paper: u64) {
+    compared(output, name, answer::number(answer) as u64, paper);
 }
 
-fn composed(engine: Engine) {
+fn composed(output: Stdout, engine: Engine) {
     let p = with_other_data(params(1, 7));
     let process = [0x12u8, 0x34, 0x56];
     let other = OTHER;
     let mut image = [0u8; 9];
     let answer = spdu::compose(engine, p, 5, false, true, &process, &other, &mut image);
-    answered(b"composed, answer", answer, 0);
+    answered(output, b"composed, answer", answer, 0);
     let paper = REQUEST_IMAGE;
-    octets(b"composed", &image, &paper);
+    octets(output, b"composed", &image, &paper);
 }
 
-fn split() {
+fn split(output: Stdout) {
     let p = with_other_data(params(1, 7));
     let image = RESPONSE_IMAGE;
-    answered(b"split, answer", spdu::split(p, &image), 0);
+    answered(output, b"split, answer", spdu::split(p, &image), 0);
     let paper = RESPONSE_16;
-    octets(b"split, SPDU", spdu::spdu_part(p, &image), &paper);
+    octets(output, b"split, SPDU", spdu::spdu_part(p, &image), &paper);
     let paper = OTHER;
-    octets(b"split, other data", spdu::other_part(p, &image), &paper);
+    octets(
+        output,
+        b"split, other data",
+        spdu::other_part(p, &image),
+        &paper,
+    );
     answered(
+        output,
         b"one octet short, split, answer",
         spdu::split(p, &image[..8]),
         7,
     );
 }
 
-fn response_read(engine: Engine) {
+fn response_read(output: Stdout, engine: Engine) {
     let spdu = RESPONSE_16;
     let r = spdu::read_response(engine, params(1, 7), &spdu);
-    compared(b"response read, DCount_i", r.DCount_i as u64, 2);
-    compared(b"response read, SDset", r.SDset as u64, 1);
-    compared(b"response read, DCommErr", r.DCommErr as u64, 0);
-    compared(b"response read, DTimeout", r.DTimeout as u64, 1);
-    compared(b"response read, port holds", r.port_holds as u64, 1);
+    compared(output, b"response read, DCount_i", r.DCount_i as u64, 2);
+    compared(output, b"response read, SDset", r.SDset as u64, 1);
+    compared(output, b"response read, DCommErr", r.DCommErr as u64, 0);
+    compared(output, b"response read, DTimeout", r.DTimeout as u64, 1);
+    compared(output, b"response read, port holds", r.port_holds as u64, 1);
     compared(
+        output,
         b"response read, signature holds",
         r.signature_holds as u64,
         1,
     );
-    compared(b"response read, all zero", r.all_zero as u64, 0);
+    compared(output, b"response read, all zero", r.all_zero as u64, 0);
 }
 
-fn request_read(engine: Engine) {
+fn request_read(output: Stdout, engine: Engine) {
     let spdu = REQUEST_32;
     let r = spdu::read_request(engine, params(2, 9), &spdu);
-    compared(b"request read, MCount", r.MCount as u64, 5);
-    compared(b"request read, setSD", r.setSD as u64, 0);
-    compared(b"request read, ChFAckReq", r.ChFAckReq as u64, 1);
-    compared(b"request read, port holds", r.port_holds as u64, 1);
+    compared(output, b"request read, MCount", r.MCount as u64, 5);
+    compared(output, b"request read, setSD", r.setSD as u64, 0);
+    compared(output, b"request read, ChFAckReq", r.ChFAckReq as u64, 1);
+    compared(output, b"request read, port holds", r.port_holds as u64, 1);
     compared(
+        output,
         b"request read, signature holds",
         r.signature_holds as u64,
         1,
     );
-    compared(b"request read, all zero", r.all_zero as u64, 0);
+    compared(output, b"request read, all zero", r.all_zero as u64, 0);
 }
 
 // DTimeout flipped, and the port number of another port.
-fn damaged_read(engine: Engine) {
+fn damaged_read(output: Stdout, engine: Engine) {
     let mut spdu = RESPONSE_16;
     spdu[4] = 0x44;
     let r = spdu::read_response(engine, params(1, 7), &spdu);
     compared(
+        output,
         b"damaged response read, signature holds",
         r.signature_holds as u64,
         0,
     );
     spdu[3] = 0x02;
     let r = spdu::read_response(engine, params(1, 7), &spdu);
-    compared(b"damaged response read, port holds", r.port_holds as u64, 0);
+    compared(
+        output,
+        b"damaged response read, port holds",
+        r.port_holds as u64,
+        0,
+    );
 }
 
-pub(crate) fn run(engine: Engine) {
-    requests(engine);
-    responses(engine);
-    zero_replaced(engine);
-    composed(engine);
-    split();
-    response_read(engine);
-    request_read(engine);
-    damaged_read(engine);
+pub(crate) fn run(output: Stdout, engine: Engine) {
+    requests(output, engine);
+    responses(output, engine);
+    zero_replaced(output, engine);
+    composed(output, engine);
+    split(output);
+    response_read(output, engine);
+    request_read(output, engine);
+    damaged_read(output, engine);
 }
