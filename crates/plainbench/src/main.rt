@@ -13,5 +13,11 @@ fn engine() -> Engine
 }
 
 fn main(rt: HostRuntime) {
-    session_program::run(rt.stdin(), rt.stdout(), rt.stderr(), engine(), b"plainbench: standard input cannot be read\n");
+    session_program::run(
+        rt.stdin(),
+        rt.stdout(),
+        rt.stderr(),
+        engine(),
+        b"plainbench: standard input cannot be read\n",
+    );
 }

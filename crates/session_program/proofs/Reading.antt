@@ -2,42 +2,21 @@
 use Prim.Native.Nat.{ℕ, zero, suc, ◌+◌, ◌-◌, ◌≤◌, ◌<◌}
 use native.Mathlib.Omega.{arith}
 use mathlib.Core.Path.{◌≡◌, refl, sym, ap, ◌∙◌}
-use mathlib.Core.Bool.{true, false, not}
+use mathlib.Core.Bool.{false, not}
 use mathlib.Core.List.{List, [], ◌++◌}
 use lib.Dec.{eqb, ltb}
 use lib.ListN.{length, take, drop}
 use lib.Seq.{take-append_seam, take-add}
-use borrow.Author.Tests.{ltb-true, lt-ltb, le-ltb, ne_eqb}
-use Rattle.std.specs.Prelude.{Result, Ok, Err}
+use borrow.Author.Tests.{lt-ltb, le-ltb, ne_eqb}
+use Rattle.std.specs.Prelude.{Result, Ok}
 use Rattle.std.specs.declared.io.Error.{Error}
 use Rattle.record.specs.Format.{form, most_octets}
 use Rattle.session.specs.declared.State.{State}
-use Rattle.session.specs.Run.{Entry, is_whole, start, ran, printed, closing, closing_room, finish_text, fronted, printed_by}
+use Rattle.session.specs.Run.{Entry, is_whole, start, ran, closing, closing_room, finish_text, fronted, printed_by}
 use Rattle.session.proofs.Chunks.{Reads, reads_of, extended, joined, fewer, all_of, ran_append}
 use Rattle.session_program.specs.declared.Chunk.{Chunk}
 use Rattle.session_program.specs.declared.Going.TheVariants.{On, Over, Stopped}
-use Rattle.session_program.specs.Kept.{
-  records_in,
-  left_of,
-  stopped,
-  chunk_of,
-  Used,
-  unwritten,
-  used,
-  Brought,
-  unread,
-  none,
-  some,
-  Read,
-  read,
-  first,
-  After,
-  none_yet,
-  one_more,
-  most_reads,
-  Closed,
-  Ran,
-}
+use Rattle.session_program.specs.Kept.{records_in, left_of, chunk_of, Used, unwritten, used, Brought, unread, none, some, Read, read, first, After, none_yet, one_more, most_reads, Closed, Ran}
 
 -- ---- What `read` answered
 

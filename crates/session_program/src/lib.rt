@@ -199,17 +199,13 @@ fn run_in(
 }
 
 // Runs a session, with the signatures by `engine`, and says how it ended. `unreadable` goes to standard error where standard input cannot be read.
-pub fn run(
-    input: Stdin,
-    output: Stdout,
-    errors: Stderr,
-    engine: Engine,
-    unreadable: &[u8],
-) -> Going
+pub fn run(input: Stdin, output: Stdout, errors: Stderr, engine: Engine, unreadable: &[u8]) -> Going
     ensures { kept.Ended result }
 {
     let mut buf = [0u8; 65536];
     let mut out = [0u8; 262144];
-    let last = run_in(input, output, errors, engine, unreadable, &mut buf, &mut out);
+    let last = run_in(
+        input, output, errors, engine, unreadable, &mut buf, &mut out,
+    );
     last.going
 }

@@ -4,9 +4,9 @@ use mathlib.Core.List.{List}
 use Prim.Native.Nat.{ℕ, ◌+◌, ◌*◌, ◌/◌, ◌^◌, ◌<◌}
 use Rattle.signature.specs.declared.Engine.{Engine}
 use Rattle.signature.specs.declared.Engine.TheVariants as engines
-use Rattle.signature.specs.Signature.{octet, signature}
+use Rattle.signature.specs.Signature.{signature}
 use Rattle.signature.specs.Engines.{octet_by, signed_by, Serves}
-use Rattle.signature.proofs.Law.{look_octet, look_all}
+use Rattle.signature.proofs.Law.{look_all}
 use Rattle.signature.proofs.Loop.{ByOctets, bits_by_octets, table_by_octets}
 
 -- an engine goes octet by octet

@@ -6,7 +6,7 @@ use Prim.Native.Nat.{ℕ, zero, suc, ◌+◌, ◌-◌, ◌*◌, ◌/◌, ◌%◌
 use native.Mathlib.Nat.{mod-lt, zero-add, add_comm, mul-zero, mul-suc}
 use native.Mathlib.Omega.{arith}
 use lib.Bits.{bit_xor, xor_lt}
-use lib.ListN.{length, get_or, take, drop}
+use lib.ListN.{length, take, drop}
 use lib.Pow.{pow_pos}
 use lib.Seq.{take_at, drop_at}
 use Rattle.gf2.specs.Polynomial.{◌⊕◌, zeros}

@@ -10,9 +10,9 @@ use borrow.Author.Tests.{ne_eqb}
 use lib.Bits.{bit_xor, bit_and, and_high}
 use lib.Dec.{eqb}
 use lib.Pow.{pow_pos, pow-add}
-use lib.ListN.{length, take, drop}
+use lib.ListN.{length, take}
 use Rattle.gf2.specs.Polynomial.{◌⊻◌}
-use Rattle.gf2.specs.Register.{top, shift}
+use Rattle.gf2.specs.Register.{top}
 use Rattle.gf2.specs.Bits.{bits}
 use Rattle.gf2.proofs.Bits.{bits-length, bits-shift}
 use Rattle.signature.specs.Signature.{shift_in, shift_in_all, octet}

@@ -1,5 +1,5 @@
 -- `session_program::run_in` meets its contract. Assumes nothing.
-use Rattle.std.proofs.Common.{◌≡◌, refl, ap, ◌∙◌, arith, rules}
+use Rattle.std.proofs.Common.{refl, ap, ◌∙◌, arith, rules}
 use Rattle.session.specs.declared.State.{State}
 use Rattle.session_program.specs.declared.Going.TheVariants.{On}
 use Rattle.session_program.proofs.Reading.{begin, again, failed, ended}

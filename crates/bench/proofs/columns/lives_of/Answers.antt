@@ -1,5 +1,5 @@
 -- `bench::columns::lives_of` meets its contract. Assumes nothing.
-use Rattle.std.proofs.Common.{◌≡◌, length, sym, ap, ◌∙◌, rules}
+use Rattle.std.proofs.Common.{◌≡◌, length, sym, ap, rules}
 use Rattle.bench.specs.Ports.{no_port}
 use Rattle.bench.specs.Columns.{lives_in}
 use Rattle.bench.proofs.Beside.{eight}

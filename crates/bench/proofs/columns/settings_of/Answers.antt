@@ -1,5 +1,5 @@
 -- `bench::columns::settings_of` meets its contract. Assumes nothing.
-use Rattle.std.proofs.Common.{◌≡◌, length, sym, ap, ◌∙◌, rules}
+use Rattle.std.proofs.Common.{◌≡◌, length, sym, ap, rules}
 use Rattle.bench.specs.Ports.{no_port}
 use Rattle.bench.specs.Columns.{settings_in}
 use Rattle.bench.proofs.Beside.{eight}

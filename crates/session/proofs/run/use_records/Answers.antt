@@ -1,5 +1,5 @@
 -- `session::run::use_records` meets its contract. Assumes nothing.
-use Rattle.std.proofs.Common.{◌≡◌, ◌⊎◌, ℕ, ◌+◌, ◌-◌, ◌*◌, false, List, [], ◌∷◌, length, drop, set, sym, refl, ap, ◌∙◌, inl, inr, arith}
+use Rattle.std.proofs.Common.{◌≡◌, ◌⊎◌, ℕ, false, List, drop, set, sym, refl, ap, ◌∙◌, inl, inr, arith}
 use Rattle.bench.specs.declared.Setting.{Setting}
 use Rattle.bench.specs.declared.Live.{Live}
 use Rattle.bench.specs.declared.Act.{Act}
@@ -103,7 +103,7 @@ returns c =
     let s = drop l.at x.s.now in
     let e : (l.left ≡ 0) ⊎ (is_whole (form s) ≡ false) =
     elim c.if-left-eq0.branch [
-      then-left-eq0 w ↦ inl w.if-left-eq0.true
+      | then-left-eq0 w ↦ inl w.if-left-eq0.true
       | else-left-eq0+in_default w ↦ inr (not_whole (form s) s l.at (λ k q t i j h. w.in_default.not-Whole k q t i j (w.read_record.ensures ∙ h)))
     ] in
     let p = stopped l.invariant.link refl l.invariant.within (omega (arith, l.invariant.kept, l.invariant.fits)) e in

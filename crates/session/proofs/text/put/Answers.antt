@@ -1,5 +1,5 @@
 -- `session::text::put` meets its contract: there is room for the first n octets. Assumes nothing.
-use Rattle.std.proofs.Common.{◌≡◌, ◌+◌, length, take, arith, length-take, length-drop}
+use Rattle.std.proofs.Common.{◌≡◌, length, take, arith, length-take, length-drop}
 use Rattle.lines.proofs.Written.{copied}
 use Rattle.session.proofs.text.put.Goals as goal
 

@@ -10,7 +10,7 @@ loop-i-init c = first_turn
 pub loop-i-preserved : goal.loop-i-preserved
 loop-i-preserved c =
     elim c.if-r-x.branch [
-      then-r-x w ↦ turn 31 true w.if-r-x.true w.r-is c.loop-i.invariant (search rules)
+      | then-r-x w ↦ turn 31 true w.if-r-x.true w.r-is c.loop-i.invariant (search rules)
       | else-r-x w ↦ turn 31 false w.if-r-x.false w.r-is c.loop-i.invariant (search rules)
     ]
 

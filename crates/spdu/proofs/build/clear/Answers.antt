@@ -1,5 +1,5 @@
 -- `spdu::build::clear` meets its contract. Assumes nothing.
-use Rattle.std.proofs.Common.{◌≡◌, ℕ, ◌++◌, length, take, drop, min, replicate, refl, sym, ap, ◌∙◌, arith}
+use Rattle.std.proofs.Common.{◌≡◌, ℕ, ◌++◌, length, take, drop, min, refl, ap, ◌∙◌, arith}
 use Rattle.spdu.proofs.Buffers.{zeros, zeros-length, zeros_over}
 use Rattle.spdu.proofs.build.clear.Goals as goal
 
