@@ -45,9 +45,11 @@ type Fields = Vec<(String, String)>;
 
 /// The `repr(C)` structs of a file: names, and fields with their types.
 fn structs(text: &str) -> Vec<(String, Fields)> {
-    text.split("#[repr(C)]\npub struct ")
+    text.split("#[repr(C)]\n")
         .skip(1)
         .map(|rest| {
+            let (attributes, rest) = rest.split_once("pub struct ").expect("a struct");
+            assert!(attributes.lines().all(|line| line.starts_with("#[")), "a struct behind its attributes");
             let (name, body) = rest.split_once(" {\n").expect("a struct");
             let (body, _) = body.split_once("\n}").expect("its end");
             let fields = body.lines().map(|line| {
