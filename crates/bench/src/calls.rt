@@ -89,8 +89,8 @@ fn acted(b: Bench, i: usize, p: Port, at: u32, act: Act) -> BenchAfter
 // these calls; with the block's arm it would be called, and the bench copied on the way in and out.
 #[tactic(auto, unfolding(crate::specs::Calls::done))]
 fn happened(b: Bench, i: usize, p: Port, act: Act) -> BenchAfter
-    requires i_bound { i < 8 }
-    requires act_value { storing.has_block act ≡ false }
+    requires place { i < 8 }
+    requires no_block { storing.has_block act ≡ false }
     ensures { (at : ℕ) → (result ≡ storing.acted b i p at act) }
 {
     match act {

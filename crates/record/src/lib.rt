@@ -104,8 +104,8 @@ fn head_holds(s: &[u8]) -> bool
 
 // Of a record whose head holds and that is not cut short.
 fn octet_holds(s: &[u8]) -> bool
-    requires s_in_bounds { format.size_of s.now ≤ length s.now }
-    requires s_value { format.head_holds s.now ≡ true }
+    requires all_there { format.size_of s.now ≤ length s.now }
+    requires head_holds { format.head_holds s.now ≡ true }
     ensures { result ≡ format.octet_holds s.now }
 {
     if s[2] == 4 { s[9] < 4 } else { true }

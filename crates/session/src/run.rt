@@ -96,7 +96,7 @@ fn stop_at(s: &[u8], at: usize) -> Stop
 
 // One more in bin i of the port at k, where its turn counts a sample.
 fn raise(bins: &mut [[u32; BIN_COUNT]; PORT_COUNT], k: usize, counts: bool, i: usize)
-    requires k_bound { k < 8 }
+    requires place { k < 8 }
     requires is_bin { counts ≡ true → columns.IsBin i }
     ensures { bins.new ≡ columns.raised_at bins.old k counts i }
 {

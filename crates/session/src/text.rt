@@ -8,7 +8,7 @@ use bench::{Bench, PORT_COUNT, Port};
 // The first n octets of a line.
 pub(crate) fn put(buf: &mut [u8], at: usize, line: &[u8], n: usize) -> usize
     requires prefix_len { IsPrefixLen n line.now }
-    requires n_in_bounds { at + n ≤ length buf.old }
+    requires room { at + n ≤ length buf.old }
     ensures { lines.Written buf.old at (take n line.now) result buf.new }
 {
     at + octets::copy(&line[..n], &mut buf[at..])

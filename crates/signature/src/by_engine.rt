@@ -12,7 +12,7 @@ use crate::short_by_shift::{signature16_by_shift, step16_by_shift};
 // Zeros for Shift: no entry is there to be read by mistake.
 pub fn table16_for(engine: Engine) -> [u16; 256]
     ensures serves { Serves engine 16 generator16 8 result }
-    ensures value { engine ≡ Engine.Shift → result ≡ replicate 256 0 }
+    ensures zeros_for_shift { engine ≡ Engine.Shift → result ≡ replicate 256 0 }
 {
     match engine {
         Engine::Table => table16(),
@@ -22,7 +22,7 @@ pub fn table16_for(engine: Engine) -> [u16; 256]
 
 pub fn table32_for(engine: Engine) -> [u32; 16]
     ensures serves { Serves engine 32 generator32 4 result }
-    ensures value { engine ≡ Engine.Shift → result ≡ replicate 16 0 }
+    ensures zeros_for_shift { engine ≡ Engine.Shift → result ≡ replicate 16 0 }
 {
     match engine {
         Engine::Table => table32(),

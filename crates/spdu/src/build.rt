@@ -84,7 +84,7 @@ fn write(
 
 pub(crate) fn buffers_hold(mode: u8, spdu: u8, process: usize, out: usize) -> bool
     ensures value { result ≡ built.buffers_hold mode spdu process out }
-    ensures out_bound { result ≡ true → out ≤ 255 }
+    ensures at_most_255 { result ≡ true → out ≤ 255 }
 {
     let n = spdu as usize;
     let safety = ranges::safety_octets(mode) as usize;

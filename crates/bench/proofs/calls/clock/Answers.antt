@@ -7,8 +7,8 @@ use Rattle.bench.specs.Calls.{clock_act, safe_in_hold, safe_out_hold}
 use Rattle.bench.proofs.Acted.{act-after, no_block, nowhere_clock}
 use Rattle.bench.proofs.calls.clock.Goals as goal
 
-pub happened-requires-clause-act_value : goal.happened-requires-clause-act_value
-happened-requires-clause-act_value c = rw c.clock_act.ensures (no_block _ _)
+pub happened-requires-clause-no_block : goal.happened-requires-clause-no_block
+happened-requires-clause-no_block c = rw c.clock_act.ensures (no_block _ _)
 
 pub returns : goal.returns
 unfolding no_port

@@ -6,8 +6,8 @@ use Rattle.bench.specs.Calls.{operator_act, safe_in_hold}
 use Rattle.bench.proofs.Acted.{act-after, no_block, nowhere_operator}
 use Rattle.bench.proofs.calls.operator.Goals as goal
 
-pub happened-requires-clause-act_value : goal.happened-requires-clause-act_value
-happened-requires-clause-act_value c = rw c.operator_act-act.ensures (no_block _ _)
+pub happened-requires-clause-no_block : goal.happened-requires-clause-no_block
+happened-requires-clause-no_block c = rw c.operator_act-act.ensures (no_block _ _)
 
 pub returns : goal.returns
 unfolding no_port

@@ -11,8 +11,8 @@ use Rattle.bench.specs.Storing.{acted}
 use Rattle.bench.proofs.Acted.{act-after, no_block, nowhere_request}
 use Rattle.bench.proofs.calls.receive_request.Goals as goal
 
-pub happened-requires-clause-act_value : goal.happened-requires-clause-act_value
-happened-requires-clause-act_value c = rw c.request_act-act.ensures (no_block _ _)
+pub happened-requires-clause-no_block : goal.happened-requires-clause-no_block
+happened-requires-clause-no_block c = rw c.request_act-act.ensures (no_block _ _)
 
 pub returns : goal.returns
 unfolding no_port
