@@ -5,6 +5,8 @@ use mathlib.Core.Bool.{Bool, true, false, cond}
 use mathlib.Core.List.{List, []}
 use lib.ListN.{get_or, set, drop, replicate, length-set}
 use lib.Seq.{set-get_or}
+use Rattle.std.specs.Prelude.{Option, Some, None, is_some, is_none}
+use Rattle.std.specs.Option.{unwrap_or}
 use Rattle.answer.specs.declared.Answer.{Answer}
 use Rattle.answer.specs.declared.Answer.TheVariants as answers
 use Rattle.answer.specs.Answers.{is_taken}
@@ -27,8 +29,12 @@ use Rattle.bench.specs.declared.Reply.{Reply}
 use Rattle.bench.specs.declared.BenchAfter.{BenchAfter}
 use Rattle.bench.specs.declared.Act.{Act}
 use Rattle.bench.specs.declared.Act.TheVariants.{Refused, Accepted, Happens}
+use Rattle.bench.specs.declared.End.{End}
+use Rattle.bench.specs.declared.End.TheVariants as end
+use Rattle.bench.specs.Methods.{annex_d}
+use Rattle.bench.specs.Handing.{safe_holds_at}
 use Rattle.bench.specs.Ports as ports
-use Rattle.bench.specs.Ports.{new_port, no_port, place_of, port_at, with_port, accepted_port, stored, said, step_of, silent}
+use Rattle.bench.specs.Ports.{new_port, no_port, place_of, index_of, port_at, with_port, accepted_port, stored, said, step_of, silent}
 use Rattle.bench.specs.Calls as calls
 use Rattle.bench.specs.Storing as storing
 use Rattle.bench.specs.Columns.{ports_of}
@@ -83,18 +89,49 @@ module _ (l : List Port) (n at : ℕ) (act : Port → Act) where
 
 module _ (b : Bench) (port at : ℕ) (act : Setting → Act) (nowhere : outside 1 8 port ≡ true → (s : Setting) → act s ≡ Refused answers.NoPort) where
   abbrev in_place : Port
-  in_place = get_or b.ports (place_of port).index no_port
+  in_place = get_or b.ports (index_of port) no_port
 
-  pub act-after : storing.acted b (place_of port).index in_place at (act in_place.setting) ≡ calls.placed b port (calls.done (port_at b port) at (act (port_at b port).setting))
+  pub act-after : storing.acted b (index_of port) in_place at (act in_place.setting) ≡ calls.placed b port (calls.done (port_at b port) at (act (port_at b port).setting))
   unfolding port_at with_port calls.placed
   act-after = placed_by b.ports (port - 1) at (λ p. act p.setting) (outside 1 8 port) (λ h p. nowhere h p.setting)
 
-  pub act_bench : bench_of (act_ports b.ports (place_of port).index at (act in_place.setting)) ≡ (calls.placed b port (calls.done (port_at b port) at (act (port_at b port).setting))).bench
+  pub act_bench : bench_of (act_ports b.ports (index_of port) at (act in_place.setting)) ≡ (calls.placed b port (calls.done (port_at b port) at (act (port_at b port).setting))).bench
   act_bench = ap (λ (r : BenchAfter). r.bench) act-after
 
   pub act-answer : answer_in (act in_place.setting) ≡ (calls.done (port_at b port) at (act (port_at b port).setting)).reply.answer
   unfolding calls.placed
   act-answer = answer-act in_place at (act in_place.setting) ∙ ap (λ (r : BenchAfter). r.reply.answer) act-after
+
+-- ---- A call whose number is looked up first: where a port has it, and where none has
+
+module _ (b : Bench) (port at : ℕ) (act : Bool → Setting → Act) where
+  abbrev asked_at : BenchAfter
+  asked_at = let p = port_at b port in calls.placed b port (calls.done p at (act (outside 1 8 port) p.setting))
+
+  pub found : {i : ℕ} → place_of port ≡ Some i
+      → (let p = get_or b.ports i no_port in storing.acted b i p at (act false p.setting)) ≡ asked_at
+  unfolding port_at with_port calls.placed
+  found {i} here = go (outside 1 8 port) here
+    where
+      go : (o : Bool) → cond o None (Some (port - 1)) ≡ Some i
+          → (let q = get_or b.ports i no_port in after_of (bench_of (act_ports b.ports i at (act false q.setting))) (calls.done q at (act false q.setting)).reply)
+          ≡ (let p = cond o new_port (get_or b.ports (port - 1) no_port) in let r = calls.done p at (act o p.setting) in
+          after_of (cond (is_taken r.reply.answer) (cond o (bench_of b.ports) (bench_of (set b.ports (port - 1) r.port))) (bench_of b.ports)) r.reply)
+      go true e = no (sym (ap is_some e))
+      go false e =
+          let k : port - 1 ≡ i = ap (λ z. unwrap_or z 0) e in
+          rw (← k) (placed_by b.ports (port - 1) at (λ p. act false p.setting) false (λ z. no (sym z)))
+
+  pub nowhere : ((i : ℕ) → place_of port ≡ Some i → ⊥) → ((s : Setting) → act true s ≡ Refused answers.NoPort) → after_of b (silent answers.NoPort) ≡ asked_at
+  unfolding port_at with_port calls.placed calls.done silent
+  nowhere here refuses = go (outside 1 8 port) here
+    where
+      go : (o : Bool) → ((i : ℕ) → cond o None (Some (port - 1)) ≡ Some i → ⊥)
+          → after_of b (silent answers.NoPort)
+          ≡ (let p = cond o new_port (get_or b.ports (port - 1) no_port) in let r = calls.done p at (act o p.setting) in
+          after_of (cond (is_taken r.reply.answer) (cond o (bench_of b.ports) (bench_of (set b.ports (port - 1) r.port))) (bench_of b.ports)) r.reply)
+      go true e = rw (refuses new_port.setting) refl
+      go false e = absurd (e (port - 1) refl)
 
 -- ---- A number that no port has is refused, whatever stands in the place that is looked at; and only a block has a block
 
@@ -112,6 +149,30 @@ unfolding calls.asked
 nowhere_request sign true e s at spdu holds = refl
 nowhere_request sign false e s at spdu holds = no (sym e)
 
+-- where there is no setting
+pub nowhere_spdu : (sign : ℕ → List ℕ → ℕ) (e : End) (o : Option Setting) → ((s : Setting) → o ≡ Some s → ⊥) → (at : ℕ) (spdu : List ℕ) (holds : Bool)
+    → Refused answers.NoPort ≡ calls.spdu_act sign e (is_none o) (calls.setting_in o) at spdu holds
+unfolding calls.asked
+nowhere_spdu sign end.Master None n at spdu holds = refl
+nowhere_spdu sign end.Device None n at spdu holds = refl
+nowhere_spdu sign e (Some s) n at spdu holds = absurd (n s refl)
+
+pub spdu_nowhere : (sign : ℕ → List ℕ → ℕ) (e : End) (s : Setting) (at : ℕ) (spdu : List ℕ) (holds : Bool) → calls.spdu_act sign e true s at spdu holds ≡ Refused answers.NoPort
+unfolding calls.asked
+spdu_nowhere sign end.Master s at spdu holds = refl
+spdu_nowhere sign end.Device s at spdu holds = refl
+
+pub no_block_at : (sign : ℕ → List ℕ → ℕ) (e : End) (o : Bool) (s : Setting) (at : ℕ) (spdu : List ℕ) (holds : Bool) → storing.has_block (calls.spdu_act sign e o s at spdu holds) ≡ false
+no_block_at sign end.Master o s at spdu holds = no_block _ _
+no_block_at sign end.Device o s at spdu holds = no_block _ _
+
+-- the call of an end
+pub received_at : (b : Bench) (port : ℕ) (e : End) (at : ℕ) (spdu safe : List ℕ)
+    → (let p = port_at b port in calls.placed b port (calls.done p at (calls.spdu_act annex_d.spdu e (outside 1 8 port) p.setting at spdu (safe_holds_at e p.setting.params safe))))
+    ≡ calls.receive annex_d b port e at spdu safe
+received_at b port end.Master at spdu safe = refl
+received_at b port end.Device at spdu safe = refl
+
 pub nowhere_clock : (o : Bool) → o ≡ true → (s : Setting) (at : ℕ) (holds : Bool) → calls.clock_act o s at holds ≡ Refused answers.NoPort
 unfolding calls.asked
 nowhere_clock true e s at holds = refl
@@ -127,6 +188,16 @@ unfolding calls.asked_by_block
 nowhere_block sign port octets e =
     let later = drop 1 (rules_by sign octets port) in
     ap (λ (a : Answer). calls.asked_by_block (judged_as a (params_of octets))) (onward later (ap (λ (o : Bool). answering.refused answers.Taken o answers.NoPort) e) ∙ stays answers.NoPort later refl)
+
+pub nowhere_block_at : (b : Bench) (port at : ℕ) (sign : List ℕ → ℕ) (octets : List ℕ) → ((i : ℕ) → place_of port ≡ Some i → ⊥)
+    → after_of b (silent answers.NoPort) ≡ calls.placed b port (calls.done (port_at b port) at (calls.parameters_act sign port octets))
+unfolding calls.placed calls.done silent
+nowhere_block_at b port at sign octets n = go (outside 1 8 port) refl
+  where
+    go : (o : Bool) → outside 1 8 port ≡ o
+        → after_of b (silent answers.NoPort) ≡ calls.placed b port (calls.done (port_at b port) at (calls.parameters_act sign port octets))
+    go true e = rw (nowhere_block sign port octets e) refl
+    go false e = absurd (n (port - 1) (ap (λ o. cond o None (Some (port - 1))) e))
 
 -- ---- In columns: what is stored there is what the act makes of the ports
 
@@ -167,10 +238,10 @@ module _ (s : List Setting) (l : List Live) (b : List (List ℕ)) (k at : ℕ) w
           })
 
       module _ (h : Happening) (t : Turned) (turned : t ≡ ports.turn_of setting live h) where
-        pub happened : a ≡ Happens h → s' ≡ s → l' ≡ set l k t.live → b' ≡ set b k (raised_if t.counts (get_or b k []) t.bin) → Acted s' l' b' a
+        pub happened : a ≡ Happens h → s' ≡ s → l' ≡ set l k t.live → b' ≡ set b k (raised_if (get_or b k []) t.bin) → Acted s' l' b' a
         unfolding step_of stored
         happened ha hs hl hb =
-            let bins = raised_if t.counts (get_or b k []) t.bin in
+            let bins = raised_if (get_or b k []) t.bin in
             rw (ha, hs, hl, hb)
             (record {
               eight = record {

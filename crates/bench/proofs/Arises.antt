@@ -145,7 +145,7 @@ record Asked : Type 0 where
   has_responded : port.live.device.responded ≡ true
 
 asked : Asked
-unfolding had_error_or_timeout had_error had_timeout device_after samples is_sample time_of sent_since passed_for_count releases_by signals signals_after master_after watched_in passes_by since_block extended goes_on addressed result_of history_by calls.placed calls.asked calls.asked_by_block calls.done port_at with_port new_bench new_port no_port accepted_port turn_of stored said step_of tallied_by silent signing.signature signing.octet signing.shift_in_all signing.shift_in elapsed_of table38.watchdog_row table38.is_old table38.is_admitted table38.checked table38.from8 table38.arrival_row table38.admitted table38.start_from table38.t4 table38.acted masters.watched masters.quiet masters.arrived masters.received masters.clocked masters.step_of table40.watchdog_row table40.is_admitted table40.checked table40.arrival_row table40.admitted table40.t22 table40.t25 table40.t28 table40.t29 table40.acted devices.watched devices.quiet devices.arrived devices.received devices.clocked devices.step_of counted.frozen_of counted.with_sample counted.counted_of counted.totalled_of
+unfolding had_error_or_timeout had_error had_timeout device_after samples is_sample time_of sent_since passed_for_count releases_by signals signals_after master_after watched_in passes_by since_block extended goes_on addressed result_of history_by calls.placed calls.asked calls.asked_by_block calls.done port_at with_port new_bench new_port no_port accepted_port turn_of stored said step_of tallied_by silent signing.signature signing.octet signing.shift_in_all signing.shift_in elapsed_of table38.watchdog_row table38.is_old table38.is_admitted table38.checked table38.from8 table38.arrival_row table38.admitted table38.start_from table38.t4 table38.acted masters.watched masters.watched_by masters.quiet masters.arrived masters.received masters.clocked masters.step_of table40.watchdog_row table40.is_admitted table40.checked table40.arrival_row table40.admitted table40.t22 table40.t25 table40.t28 table40.t29 table40.acted devices.watched devices.watched_by devices.quiet devices.arrived devices.received devices.clocked devices.step_of counted.frozen_of counted.with_sample counted.counted_of counted.totalled_of
 asked = record {
   block = refl;
   runs = refl;
@@ -290,7 +290,7 @@ pub record Handed : Type 0 where
   device_fresh_only : deviceSpecs.FreshBy before.live.device before.setting.params.FSP_WatchdogTime (happening.Request 1070 read_request)
 
 pub handed_met : Handed
-unfolding addressed result_of history_by calls.placed calls.asked calls.asked_by_block calls.done port_at with_port new_bench new_port no_port accepted_port turn_of stored said step_of tallied_by silent signing.signature signing.octet signing.shift_in_all signing.shift_in elapsed_of table38.watchdog_row table38.is_old table38.is_admitted table38.checked table38.from8 table38.arrival_row table38.admitted table38.start_from table38.t4 table38.acted masters.watched masters.quiet masters.arrived masters.received masters.clocked masters.operated table38.signalled masters.step_of table40.watchdog_row table40.is_admitted table40.checked table40.arrival_row table40.admitted table40.t22 table40.t25 table40.t28 table40.t29 table40.acted devices.watched devices.quiet devices.arrived devices.received devices.clocked devices.step_of counted.frozen_of counted.with_sample counted.counted_of counted.totalled_of
+unfolding addressed result_of history_by calls.placed calls.asked calls.asked_by_block calls.done port_at with_port new_bench new_port no_port accepted_port turn_of stored said step_of tallied_by silent signing.signature signing.octet signing.shift_in_all signing.shift_in elapsed_of table38.watchdog_row table38.is_old table38.is_admitted table38.checked table38.from8 table38.arrival_row table38.admitted table38.start_from table38.t4 table38.acted masters.watched masters.watched_by masters.quiet masters.arrived masters.received masters.clocked masters.operated table38.signalled masters.step_of table40.watchdog_row table40.is_admitted table40.checked table40.arrival_row table40.admitted table40.t22 table40.t25 table40.t28 table40.t29 table40.acted devices.watched devices.watched_by devices.quiet devices.arrived devices.received devices.clocked devices.step_of counted.frozen_of counted.with_sample counted.counted_of counted.totalled_of
 handed_met = record {
   response_hands_on = handing.response_hands_on 1 begun 1010 response safe refl;
   request_hands_on = handing.request_hands_on 1 before 1070 request safe refl;
@@ -327,7 +327,7 @@ pub record Copied : Type 0 where
   no_such_port : (handed_to annex_d 9 port end.Device Fresh request safe 1).answer ≡ NoPort
 
 pub copied_met : Copied
-unfolding addressed result_of history_by calls.placed calls.asked calls.asked_by_block calls.done port_at with_port new_bench new_port no_port accepted_port turn_of stored said step_of tallied_by silent signing.signature signing.octet signing.shift_in_all signing.shift_in elapsed_of table38.watchdog_row table38.is_old table38.is_admitted table38.checked table38.from8 table38.arrival_row table38.admitted table38.start_from table38.t4 table38.acted masters.watched masters.quiet masters.arrived masters.received masters.clocked masters.operated table38.signalled masters.step_of table40.watchdog_row table40.is_admitted table40.checked table40.arrival_row table40.admitted table40.t22 table40.t25 table40.t28 table40.t29 table40.acted devices.watched devices.quiet devices.arrived devices.received devices.clocked devices.step_of counted.frozen_of counted.with_sample counted.counted_of counted.totalled_of handed_to handed_out
+unfolding addressed result_of history_by calls.placed calls.asked calls.asked_by_block calls.done port_at with_port new_bench new_port no_port accepted_port turn_of stored said step_of tallied_by silent signing.signature signing.octet signing.shift_in_all signing.shift_in elapsed_of table38.watchdog_row table38.is_old table38.is_admitted table38.checked table38.from8 table38.arrival_row table38.admitted table38.start_from table38.t4 table38.acted masters.watched masters.watched_by masters.quiet masters.arrived masters.received masters.clocked masters.operated table38.signalled masters.step_of table40.watchdog_row table40.is_admitted table40.checked table40.arrival_row table40.admitted table40.t22 table40.t25 table40.t28 table40.t29 table40.acted devices.watched devices.watched_by devices.quiet devices.arrived devices.received devices.clocked devices.step_of counted.frozen_of counted.with_sample counted.counted_of counted.totalled_of handed_to handed_out
 copied_met = record {
   by_response = handingAfter.response-handed 1 begun 1010 response safe (7 ∷ 7 ∷ []) refl (omega arith);
   by_request = record { told = refl; written = refl };
@@ -388,7 +388,7 @@ unfolding since_block extended goes_on addressed result_of history_by calls.plac
 faulty-block = refl
 
 fault_open : fault 1000 100 faulty_past ≡ Open
-unfolding fault admitted_by faulty_by answered_by signals watched_in master_after signing.signature signing.octet signing.shift_in_all signing.shift_in table38.watchdog_row table38.is_old table38.is_admitted table38.checked table38.arrival_row masters.watched masters.quiet masters.arrived masters.received masters.step_of table38.acted
+unfolding fault admitted_by faulty_by answered_by signals watched_in master_after signing.signature signing.octet signing.shift_in_all signing.shift_in table38.watchdog_row table38.is_old table38.is_admitted table38.checked table38.arrival_row masters.watched masters.watched_by masters.quiet masters.arrived masters.received masters.step_of table38.acted
 fault_open = refl
 
 is_faulty_lem : fault 1000 100 faulty_past ≡ None → ⊥
@@ -398,7 +398,7 @@ faulty_matches : MatchesSince faulty 1000 (params_of good) faulty_past
 faulty_matches = matching 1 refl damaged 1000 (params_of good) faulty_past faulty-block
 
 no_response_yet : faulty.live.device.responded ≡ false
-unfolding device_after table40.watchdog_row table40.acted devices.watched devices.quiet devices.clocked devices.step_of
+unfolding device_after table40.watchdog_row table40.acted devices.watched devices.watched_by devices.quiet devices.clocked devices.step_of
 no_response_yet = rw faulty_matches.device refl
 
 -- process octets as lent and the FS-Device's answer to its last request; zeros with setSD 1 while the fault is open; zeros before the first response
@@ -528,5 +528,5 @@ pub record ByMethod : Type 0 where
   copied : (result_of annex_d (history worked) (WithoutReading 1 (HandOn end.Device Fresh request safe (7 ∷ [])))).written ≡ 0x2A ∷ []
 
 pub by_method_met : ByMethod
-unfolding table38.t7 answer_without_reading written_without_reading composed compose_answer build_answer response_out addressed result_of history_by calls.placed calls.asked calls.asked_by_block calls.done port_at with_port new_bench new_port no_port accepted_port turn_of stored said step_of tallied_by silent signing.signature signing.octet signing.shift_in_all signing.shift_in elapsed_of table38.watchdog_row table38.is_old table38.is_admitted table38.checked table38.from8 table38.arrival_row table38.admitted table38.start_from table38.t4 table38.acted masters.watched masters.quiet masters.arrived masters.received masters.clocked masters.operated table38.signalled masters.step_of table40.watchdog_row table40.is_admitted table40.checked table40.arrival_row table40.admitted table40.t22 table40.t25 table40.t28 table40.t29 table40.acted devices.watched devices.quiet devices.arrived devices.received devices.clocked devices.step_of counted.frozen_of counted.with_sample counted.counted_of counted.totalled_of handed_to handed_out
+unfolding table38.t7 answer_without_reading written_without_reading composed compose_answer build_answer response_out addressed result_of history_by calls.placed calls.asked calls.asked_by_block calls.done port_at with_port new_bench new_port no_port accepted_port turn_of stored said step_of tallied_by silent signing.signature signing.octet signing.shift_in_all signing.shift_in elapsed_of table38.watchdog_row table38.is_old table38.is_admitted table38.checked table38.from8 table38.arrival_row table38.admitted table38.start_from table38.t4 table38.acted masters.watched masters.watched_by masters.quiet masters.arrived masters.received masters.clocked masters.operated table38.signalled masters.step_of table40.watchdog_row table40.is_admitted table40.checked table40.arrival_row table40.admitted table40.t22 table40.t25 table40.t28 table40.t29 table40.acted devices.watched devices.watched_by devices.quiet devices.arrived devices.received devices.clocked devices.step_of counted.frozen_of counted.with_sample counted.counted_of counted.totalled_of handed_to handed_out
 by_method_met = record { block_refused = refl; no_such_port = refl; response_safe = refl; request_safe = refl; composes = refl; builds = refl; copies = refl; copied = refl }

@@ -1,13 +1,15 @@
 -- Laws of ports in columns: a store in each column is a store of the port, and an element of each is the port. Assumes nothing.
-use Prim.Native.Nat.{ℕ, zero, suc, ◌+◌, ◌<◌}
+use Prim.Native.Nat.{ℕ, zero, suc, ◌<◌}
 use native.Mathlib.Omega.{arith}
 use mathlib.Core.Path.{◌≡◌, refl, sym, ap, ◌∙◌}
 use mathlib.Core.List.{List, [], ◌∷◌}
-use lib.ListN.{length, get_or, set, drop}
-use lib.Seq.{drop-cons, drop-length}
+use lib.ListN.{length, get_or, set}
+use Rattle.std.specs.Prelude.{map}
+use Rattle.std.proofs.lemmas.List.{ext_get_or, get_or-map, length-map}
 use Rattle.bench.specs.declared.Setting.{Setting}
 use Rattle.bench.specs.declared.Live.{Live}
 use Rattle.bench.specs.declared.Port.{Port}
+use Rattle.bench.specs.declared.Bench.{Bench}
 use Rattle.bench.specs.Columns.{settings_in, lives_in, bins_in, joined, beside, ports_of, packed}
 
 module _ {A B C : Type 0} (f : A → B → C) where
@@ -66,6 +68,9 @@ module _ (s : List Setting) (l : List Live) (b : List (List ℕ)) where
 
 -- ---- From a bench and back
 
+abbrev bench_of : List Port → Bench
+bench_of ports = record { ports = ports }
+
 -- columns of some ports, side by side, are the ports
 pub columns_of : (ports : List Port) → ports_of (settings_in ports) (lives_in ports) (bins_in ports) ≡ ports
 columns_of [] = refl
@@ -74,16 +79,18 @@ columns_of (p ∷ ports) = ap (λ (l : List Port). p ∷ l) (columns_of ports)
 pub packed_same : {s s' : List Setting} {l l' : List Live} {b b' : List (List ℕ)} → s ≡ s' → l ≡ l' → b ≡ b' → packed s l b ≡ packed s' l' b'
 packed_same e f g = rw (e, f, g)
 
--- a list of n elements from place i on, element by element
-module _ {A : Type 0} (l : List A) (d : A) where
-  abbrev listed : ℕ → ℕ → List A
-  listed zero i = []
-  listed (suc n) i = get_or l i d ∷ listed n (suc i)
+-- a column, element by element
+pub column : {A : Type 0} (f : Port → A) (ports : List Port) (p : Port) (d : A) (l : List A) → length ports ≡ 8 → length l ≡ 8
+    → ((i : ℕ) → i < 8 → get_or l i d ≡ f (get_or ports i p)) → l ≡ map f ports
+column f ports p d l n m each =
+    ext_get_or d l (map f ports) (m ∙ sym (length-map ports f ∙ n))
+    (λ i h. each i (omega (arith, h, m)) ∙ sym (get_or-map f ports i p d (omega (arith, h, m, n))))
 
-  from : (n i : ℕ) → length l ≡ i + n → drop i l ≡ listed n i
-  from zero i h = let e : i ≡ length l = omega (arith, h) in rw e (drop-length l)
-  from (suc n) i h = drop-cons l i d (omega arith) ∙ ap (λ (r : List A). get_or l i d ∷ r) (from n (suc i) (omega arith))
-
-  -- of eight
-  pub eight : length l ≡ 8 → l ≡ listed 8 0
-  eight h = from 8 0 h
+-- ports put together from eight of each column, element by element
+pub packed_by : (s : List Setting) (l : List Live) (b : List (List ℕ)) → Eight s l b → {ports : List Port} (p : Port) → length ports ≡ 8
+    → ((i : ℕ) → i < 8 → get_or ports i p ≡ joined (get_or s i p.setting) (get_or l i p.live) (get_or b i []))
+    → bench_of ports ≡ packed s l b
+packed_by s l b e {ports} p n each =
+    ap bench_of
+    (ext_get_or p ports (ports_of s l b) (n ∙ sym (length_columns s l b e))
+    (λ i h. let k : i < 8 = omega (arith, h, n) in each i k ∙ sym (get_or-columns s l b e i p.setting p.live [] p k)))

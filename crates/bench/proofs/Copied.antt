@@ -18,7 +18,7 @@ use Rattle.bench.specs.declared.End.{End}
 use Rattle.bench.specs.declared.Handed.{Handed}
 use Rattle.bench.specs.Methods.{annex_d}
 use Rattle.bench.specs.Calls.{call_rules}
-use Rattle.bench.specs.Handing.{length_at, lent_rules, part_at, safe_holds_at, handed_to, handed_out}
+use Rattle.bench.specs.Handing.{length_at, lent_rules, part_at, safe_holds_at, Parted, Unparted, handed_to, handed_out}
 use Rattle.bench.proofs.Taken.{taken_is}
 
 -- how many octets are told, and what stands in the buffer later
@@ -61,31 +61,33 @@ module _ (port : ℕ) (p : Port) (e : End) (mark : Mark) (spdu safe out : List �
   unfolding handed_to handed_out
   by_answer a is = record { told_is = ap told_by (sym is); later_is = ap later_by (sym is) }
 
-  module _ (a : Answer) (given : List ℕ) (is : a ≡ lent holds) (t : is_taken a ≡ true) (same : given ≡ part) where
+  module _ {given : List ℕ} (parted : Parted annex_d port p e mark spdu safe given) where
     room_decides : lent (holds && leb (length part) (length out)) ≡ cond (leb (length part) (length out)) Taken Buffer
-    room_decides = answer_is ∙ ap (λ (b : Bool). cond b (cond (leb (length part) (length out)) Taken Buffer) (lent holds)) (ap is_taken (sym is) ∙ t)
+    room_decides = answer_is ∙ ap (λ (b : Bool). cond b (cond (leb (length part) (length out)) Taken Buffer) (lent holds)) parted.0
 
     -- the part has room
-    pub copied : (later : List ℕ) (n : ℕ) → length given ≤ length out → n ≡ length given → later ≡ take (length given) given ++ drop (length given) out
+    pub copied : (later : List ℕ) (n : ℕ) → length given ≤ length out → n ≡ length given → later ≡ take n given ++ drop n out
         → Copied port p e mark spdu safe out (record { answer = Taken; octets = n }) later
     copied later n fits count written =
+        let same = parted.1 in
         let f : leb (length part) (length out) ≡ true = ap (λ (l : List ℕ). leb (length l) (length out)) (sym same) ∙ le-leb (length given) (length out) fits in
         let c = by_answer Taken (room_decides ∙ ap (λ (b : Bool). cond b Taken Buffer) f) in
         record {
           told_is = ap (λ (k : ℕ). record { answer = Taken; octets = k }) (count ∙ ap (λ (l : List ℕ). length l) same) ∙ c.told_is;
           later_is =
-              written ∙ ap (λ (l : List ℕ). l ++ drop (length given) out) (take-length given) ∙ ap (λ (l : List ℕ). l ++ drop (length l) out) same
+              written ∙ ap (λ (k : ℕ). take k given ++ drop k out) count
+              ∙ ap (λ (l : List ℕ). l ++ drop (length given) out) (take-length given) ∙ ap (λ (l : List ℕ). l ++ drop (length l) out) same
               ∙ c.later_is;
         }
 
     -- it has none
     pub no_room : length out < length given → Copied port p e mark spdu safe out (record { answer = Buffer; octets = 0 }) out
     no_room over =
-        by_answer Buffer (room_decides ∙ ap (λ (b : Bool). cond b Taken Buffer) (ap (λ (l : List ℕ). leb (length l) (length out)) (sym same) ∙ lt-leb (length given) (length out) over))
+        by_answer Buffer (room_decides ∙ ap (λ (b : Bool). cond b Taken Buffer) (ap (λ (l : List ℕ). leb (length l) (length out)) (sym parted.1) ∙ lt-leb (length given) (length out) over))
 
   -- 8, 9, 10, or 7 of the safe values
-  pub refused-at : (a : Answer) → a ≡ lent holds → is_taken a ≡ false → Copied port p e mark spdu safe out (record { answer = a; octets = 0 }) out
-  refused-at a is t =
-      let f : is_taken (lent holds) ≡ false = ap is_taken (sym is) ∙ t in
-      let c = by_answer a (answer_is ∙ ap (λ (b : Bool). cond b (cond (leb (length part) (length out)) Taken Buffer) (lent holds)) f ∙ sym is) in
-      rw t at c
+  pub refused-at : {a : Answer} → Unparted port p e mark spdu safe a → Copied port p e mark spdu safe out (record { answer = a; octets = 0 }) out
+  refused-at {a} u =
+      let f : is_taken (lent holds) ≡ false = ap is_taken (sym u.0) ∙ u.1 in
+      let c = by_answer a (answer_is ∙ ap (λ (b : Bool). cond b (cond (leb (length part) (length out)) Taken Buffer) (lent holds)) f ∙ sym u.0) in
+      rw u.1 at c

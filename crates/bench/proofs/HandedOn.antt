@@ -6,6 +6,7 @@ use mathlib.Core.List.{List, [], ◌∷◌}
 use lib.Dec.{eqb}
 use lib.ListN.{length, replicate}
 use borrow.Author.Tests.{eqb-true, not-false}
+use Rattle.std.specs.Prelude.{Option}
 use Rattle.answer.specs.declared.Answer.{Answer}
 use Rattle.answer.specs.declared.Answer.TheVariants.{Taken}
 use Rattle.answer.specs.Answers.{is_taken}
@@ -43,7 +44,7 @@ use Rattle.answer.proofs.Exact.{taken_exactly}
 
 -- ---- the mark of each end
 
-received_mark : (m : Master) (r : masterRow.Row) (at : ℕ) (f : Response) → (masters.received m r at f).mark ≡ mark_of (table38.is_admitted m f) (masters.received m r at f).master.released
+received_mark : (m : Master) (r : Option masterRow.Row) (at : ℕ) (f : Response) → (masters.received m r at f).mark ≡ mark_of (table38.is_admitted m f) (masters.received m r at f).master.released
 unfolding masters.received masters.arrived masters.quiet
 received_mark m r at f = go (table38.is_admitted m f)
   where
@@ -55,7 +56,7 @@ pub response_mark : (m : Master) (w at : ℕ) (f : Response) → (masters.step_o
 unfolding masters.step_of
 response_mark m w at f = received_mark (masters.watched m w at) (table38.watchdog_row m w at) at f
 
-requested_mark : (d : Device) (r : deviceRow.Row) (at : ℕ) (q : Request) → (devices.received d r at q).mark ≡ mark_of (table40.is_admitted d q) (devices.received d r at q).device.released
+requested_mark : (d : Device) (r : Option deviceRow.Row) (at : ℕ) (q : Request) → (devices.received d r at q).mark ≡ mark_of (table40.is_admitted d q) (devices.received d r at q).device.released
 unfolding devices.received devices.arrived devices.quiet
 requested_mark d r at q = go (table40.is_admitted d q)
   where

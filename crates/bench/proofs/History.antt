@@ -47,8 +47,7 @@ module _ (p : Port) (at : ℕ) (params : Params) (past : List Happening) (s : Ma
   histogram_is : histogram_of (step_of p h).port ≡ histogram_after at params.FSP_WatchdogTime (h ∷ past)
   unfolding step_of stored said turn_of histogram_after
   histogram_is =
-      let m = master_turn_of p.live.master p.setting.params.FSP_WatchdogTime h in
-      sym (tallied_parts p.live.totals p.bins p.setting.params.FSP_WatchdogTime m.releases m.t)
+      sym (tallied_parts p.live.totals p.bins p.setting.params.FSP_WatchdogTime (master_turn_of p.live.master p.setting.params.FSP_WatchdogTime h).t)
       ∙ ap (λ (k : Histogram). stepped k p.live.master p.setting.params.FSP_WatchdogTime h) s.histogram
       ∙ ap₂ (λ (m : Master) (w : ℕ). stepped (histogram_after at params.FSP_WatchdogTime past) m w h) s.master watchdog_is
 

@@ -1,8 +1,10 @@
 -- A port's place in the bench. Assumes nothing.
-use Prim.Native.Nat.{ℕ, ◌-◌, ◌≤◌}
+use Prim.Native.Nat.{ℕ, ◌-◌, ◌<◌, ◌≤◌}
+use Rattle.std.specs.Prelude.{Option, Some, None, is_some}
+use Rattle.std.specs.Option.{unwrap_or}
 use native.Mathlib.Omega.{arith}
-use mathlib.Core.Path.{◌≡◌, refl}
-use mathlib.Core.Bool.{Bool, true, false, not, ◌&&◌}
+use mathlib.Core.Path.{◌≡◌, refl, sym, ap, ◌∙◌}
+use mathlib.Core.Bool.{Bool, true, false, cond, not, ◌&&◌}
 use borrow.Author.Tests.{eqb-false, leb-true}
 use lib.Dec.{eqb, leb}
 use lib.ListN.{length, length-set, get_or-replicate}
@@ -12,7 +14,7 @@ use Rattle.ranges.specs.Fields.{outside}
 use Rattle.scl.proofs.Cases.{cond_case, no, and_left, and_right}
 use Rattle.bench.specs.declared.Port.{Port}
 use Rattle.bench.specs.declared.Bench.{Bench}
-use Rattle.bench.specs.Ports.{PortAfter, new_port, no_port, new_bench, port_at, with_port}
+use Rattle.bench.specs.Ports.{PortAfter, new_port, no_port, new_bench, place_of, index_of, port_at, with_port}
 use Rattle.bench.specs.Calls.{placed}
 
 kept : (b : Bool) → not b ≡ false → b ≡ true
@@ -24,6 +26,30 @@ pub known_range : (q : ℕ) → outside 1 8 q ≡ false → (1 ≤ q) × (q ≤ 
 known_range q e =
     let both : (leb 1 q && leb q 8) ≡ true = kept (leb 1 q && leb q 8) e in
     (leb-true 1 q (and_left (leb 1 q) (leb q 8) both), leb-true q 8 (and_right (leb 1 q) (leb q 8) both))
+
+pub index_below : (port : ℕ) → index_of port < 8
+index_below port = go (outside 1 8 port) refl
+  where
+    go : (o : Bool) → outside 1 8 port ≡ o → cond o 0 (port - 1) < 8
+    go true e = omega arith
+    go false e = let r = known_range port e in omega (arith, r.0, r.1)
+
+module _ (port : ℕ) {place : Option ℕ} (here : place ≡ place_of port) where
+  pub place_index : unwrap_or place 0 ≡ index_of port
+  place_index = rw here (go (outside 1 8 port))
+    where
+      go : (o : Bool) → unwrap_or (cond o None (Some (port - 1))) 0 ≡ cond o 0 (port - 1)
+      go true = refl
+      go false = refl
+
+  pub place_outside : {o : Bool} → is_some place ≡ not o → o ≡ outside 1 8 port
+  place_outside {o} e = go o (outside 1 8 port) (ap is_some (sym here) ∙ e)
+    where
+      go : (o p : Bool) → is_some (cond p None (Some (port - 1))) ≡ not o → o ≡ p
+      go true true e = refl
+      go true false e = no e
+      go false true e = no (sym e)
+      go false false e = refl
 
 with-length : (b : Bench) (port : ℕ) (p : Port) → length (with_port b port p).ports ≡ length b.ports
 unfolding with_port

@@ -7,6 +7,7 @@ use mathlib.Core.List.{List, [], ◌∷◌}
 use lib.Dec.{eqb}
 use lib.ListN.{length, get_or}
 use borrow.Author.Tests.{eqb-true}
+use Rattle.std.specs.Prelude.{Option, Some, None}
 use Rattle.answer.specs.Answers.{is_taken}
 use Rattle.ranges.specs.Fields.{outside}
 use Rattle.block.specs.declared.Params.{Params}
@@ -33,7 +34,7 @@ use Rattle.fs_master.proofs.Admitted.{previous_is}
 use Rattle.fs_device.specs.declared.Device.{Device}
 use Rattle.fs_device.specs.declared.Outcome.{Outcome}
 use Rattle.fs_device.specs.declared.Row.{Row}
-use Rattle.fs_device.specs.declared.Row.TheVariants.{Stay, T22, T25, T28, T29, T30, T31}
+use Rattle.fs_device.specs.declared.Row.TheVariants.{T22, T25, T28, T29, T30, T31}
 use Rattle.fs_device.specs.Table40 as table40
 use Rattle.fs_device.specs.Calls as devices
 use Rattle.fs_device.specs.History.{device_after}
@@ -115,7 +116,6 @@ cleared_1 n h = cond_case (λ (k : ℕ). k ≤ 1) (eqb n 1) (λ _. omega arith) 
 
 acted_bounded : (d : Device) (r : Row) (at : ℕ) (setSD CommErr : Bool) → Bounded d → Bounded (table40.acted d r at setSD CommErr)
 unfolding table40.acted table40.t22 table40.t25 table40.t28 table40.t29 table40.t30t31
-acted_bounded d Stay at setSD CommErr b = b
 acted_bounded d T22 at setSD CommErr b = record { admitted_count = b.admitted_count; mirrored = inverted-below d.MCount; cycles = omega (arith, b.cycles); errors = b.errors; timeouts = b.timeouts }
 acted_bounded d T25 at setSD CommErr b = record { admitted_count = b.admitted_count; mirrored = inverted-below d.MCount; cycles = omega arith; errors = omega arith; timeouts = b.timeouts }
 acted_bounded d T28 at setSD CommErr b = record { admitted_count = b.admitted_count; mirrored = inverted-below d.MCount; cycles = b.cycles; errors = b.errors; timeouts = b.timeouts }
@@ -130,14 +130,18 @@ acted_bounded d T30 at setSD CommErr b = record { admitted_count = b.admitted_co
 acted_bounded d T31 at setSD CommErr b = record { admitted_count = b.admitted_count; mirrored = inverted-below d.MCount; cycles = omega arith; errors = b.errors; timeouts = omega arith }
 
 watched_bounded : (d : Device) (w at : ℕ) → Bounded d → Bounded (devices.watched d w at)
-unfolding devices.watched
-watched_bounded d w at b = acted_bounded d (table40.watchdog_row d w at) at false false b
+unfolding devices.watched devices.watched_by
+watched_bounded d w at b = go (table40.watchdog_row d w at)
+  where
+    go : (r : Option Row) → Bounded (devices.watched_by d r at)
+    go None = b
+    go (Some r) = acted_bounded d r at false false b
 
 admitted_bounded : (d : Device) (q : Request) → q.MCount ≤ 7 → Bounded d → Bounded (table40.admitted d q)
 unfolding table40.admitted
 admitted_bounded d q h b = record { admitted_count = h; mirrored = b.mirrored; cycles = b.cycles; errors = b.errors; timeouts = b.timeouts }
 
-received_bounded : (d : Device) (r : Row) (at : ℕ) (q : Request) → q.MCount ≤ 7 → Bounded d → Bounded (devices.received d r at q).device
+received_bounded : (d : Device) (r : Option Row) (at : ℕ) (q : Request) → q.MCount ≤ 7 → Bounded d → Bounded (devices.received d r at q).device
 unfolding devices.received devices.arrived devices.quiet
 received_bounded d r at q h b =
     cond_case (λ (o : Outcome). Bounded o.device) (table40.is_admitted d q)

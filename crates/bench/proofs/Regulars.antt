@@ -1,7 +1,10 @@
 -- The turn that is written apart is the turn. Assumes nothing.
 use Prim.Native.Nat.{ℕ}
-use mathlib.Core.Path.{◌≡◌, sym, ap, ap₂, ◌∙◌}
+use mathlib.Core.Path.{◌≡◌, refl, sym, ap, ap₂, ◌∙◌}
 use mathlib.Core.Bool.{Bool, true, false, ◌&&◌}
+use Rattle.std.specs.Bool.{then_some}
+use Rattle.std.specs.Prelude.{Option, None, Some, is_some, unwrap_or, option_map}
+use Rattle.std.specs.Option.{option_and}
 use Rattle.scl.specs.Time.{elapsed_of}
 use Rattle.scl.specs.Happenings.{mark_of, is_fresh}
 use Rattle.scl.specs.declared.Response.{Response}
@@ -17,6 +20,7 @@ use Rattle.fs_master.proofs.Regulars.{regular_outcome, regular_step}
 use Rattle.fs_device.specs.declared.Device.{Device}
 use Rattle.fs_device.specs.Calls as devices
 use Rattle.fs_device.proofs.Faults.{unchanged_same}
+use Rattle.histogram.specs.declared.Totals.{Totals}
 use Rattle.histogram.specs.Samples.{bin_of}
 use Rattle.samples.specs.Tallied.{tallied_by}
 use Rattle.samples.specs.Samples.{uses_PDin}
@@ -30,14 +34,18 @@ use Rattle.bench.specs.Regular.{elapsed_at, is_regular, regular_of}
 abbrev turned : Setting → Live → ℕ → Bool → Outcome → Device → Turned
 turned s l at releases o d =
     let w = s.params.FSP_WatchdogTime in
-    let c = tallied_by l.totals w releases (elapsed_of at o.sent) in
+    let t = then_some releases (elapsed_of at o.sent) in
+    let c = tallied_by l.totals w t in
     record {
-      live = record { totals = c.totals; device = d; master = o.master; unused = l.unused };
-      counts = c.counted;
-      bin = bin_of w (elapsed_of at o.sent);
+      live = record { totals = unwrap_or c l.totals; device = d; master = o.master; unused = l.unused };
+      bin = option_and c (option_map (bin_of w) t);
       master = o.mark;
       device = mark_of false d.released;
     }
+
+counted_in : (c : Option Totals) (bin : ℕ) → option_map (λ _. bin) c ≡ option_and c (Some bin)
+counted_in None bin = refl
+counted_in (Some a) bin = refl
 
 released_fresh : (m : Master) (at : ℕ) (f : Response) → uses_PDin T4 f.SDset m.setSD_C ≡ true → is_fresh (mark_of true (t4 (admitted m f) at f.SDset).released) ≡ true
 unfolding t4 admitted
@@ -52,12 +60,13 @@ module _ (s : Setting) (l : Live) where
       let m = masters.is_regular l.master w at f in
       let d = devices.unchanged l.device w h in
       let u = uses_PDin T4 f.SDset l.master.setSD_C in
-      let c = (tallied_by l.totals w true (elapsed_at l at)).counted in
+      let c = is_some (tallied_by l.totals w (Some (elapsed_at l at))) in
       let released = and_left (m && d && u) c e in
       let both = and_left (m && d) u released in
-      sym
+      rw (counted_in (tallied_by l.totals w (Some (elapsed_at l at))) (bin_of w (elapsed_at l at)))
+      (sym
       (ap₂ (λ (o : Outcome) (d : Device). turned s l at (is_fresh o.mark) o d) (regular_step l.master w at f (and_left m d both)) (unchanged_same l.device w h (and_right m d both))
-      ∙ ap (λ (b : Bool). turned s l at b (regular_outcome l.master at f) l.device) (released_fresh l.master at f (and_right (m && d) u released)))
+      ∙ ap (λ (b : Bool). turned s l at b (regular_outcome l.master at f) l.device) (released_fresh l.master at f (and_right (m && d) u released))))
 
   pub regular_turn : (h : Happening) → is_regular s l h ≡ true → regular_of s l h ≡ turn_of s l h
   unfolding is_regular

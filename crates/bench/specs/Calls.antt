@@ -1,5 +1,5 @@
 -- The calls with a clock reading: their rules in 01's order (R27), what they ask of a port, and what that makes of it. Assumes nothing.
-use Rattle.std.specs.Prelude.{ℕ, Bool, cond, not, ◌&&◌, List, [], ◌∷◌, ◌++◌, eqb, length}
+use Rattle.std.specs.Prelude.{ℕ, Bool, cond, not, ◌&&◌, List, [], ◌∷◌, ◌++◌, eqb, length, Option, Some, None}
 use Rattle.answer.specs.declared.Answer.{Answer}
 use Rattle.answer.specs.declared.Answer.TheVariants.{Taken, Buffer, NoPort, NotRunning, SpduLength}
 use Rattle.answer.specs.Answers.{is_taken}
@@ -8,20 +8,27 @@ use Rattle.ranges.specs.Fields.{outside}
 use Rattle.block.specs.declared.Params.{Params}
 use Rattle.block.specs.declared.Judged.{Judged}
 use Rattle.block.specs.Rules.{judged_by}
-use Rattle.spdu.specs.Fields.{response_by, request_by}
+use Rattle.spdu.specs.Fields.{response_by, request_by, response_fields, request_fields}
 use Rattle.spdu.specs.Image.{safe_values_hold}
 use Rattle.scl.specs.declared.Happening.{Happening}
 use Rattle.scl.specs.declared.Happening.TheVariants as happening
 use Rattle.bench.specs.declared.Setting.{Setting}
 use Rattle.bench.specs.declared.Port.{Port}
 use Rattle.bench.specs.declared.Bench.{Bench}
+use Rattle.bench.specs.declared.End.{End}
+use Rattle.bench.specs.declared.End.TheVariants as end
 use Rattle.bench.specs.declared.Act.{Act}
 use Rattle.bench.specs.declared.Act.TheVariants.{Refused, Accepted, Happens}
 use Rattle.bench.specs.declared.BenchAfter.{BenchAfter}
 use Rattle.bench.specs.Methods.{Method}
-use Rattle.bench.specs.Ports.{PortAfter, accepted_port, port_at, with_port, step_of, silent}
+use Rattle.bench.specs.Ports.{PortAfter, accepted_port, no_port, port_at, with_port, step_of, silent}
 
 -- Rules. s is the setting of the port addressed; o says that no port has the number. "For every other call: 8, 9, 10, 7, 11."
+
+-- as a caller hands it on: the setting, or none where no port has the number; then none of it is looked at
+abbrev pub setting_in : Option Setting → Setting
+setting_in None = no_port.setting
+setting_in (Some s) = s
 
 -- 8 and 9, of the port itself
 abbrev pub port_rules : Bool → Setting → List Rule
@@ -76,6 +83,16 @@ abbrev pub request_act : (ℕ → List ℕ → ℕ) → Bool → Setting → ℕ
 request_act sign o s at spdu holds =
     asked (answer_by Taken (spdu_rules o s s.params.SPDUOutLength (length spdu) holds)) (happening.Request at (request_by sign s.params spdu))
 
+-- the two, by the end
+abbrev pub spdu_act : (ℕ → List ℕ → ℕ) → End → Bool → Setting → ℕ → List ℕ → Bool → Act
+spdu_act sign end.Master o s at spdu holds = response_act sign o s at spdu holds
+spdu_act sign end.Device o s at spdu holds = request_act sign o s at spdu holds
+
+-- what an SPDU of the configured length is at an end
+abbrev pub received : (ℕ → List ℕ → ℕ) → End → Setting → ℕ → List ℕ → Happening
+received sign end.Master s at spdu = happening.Response at (response_fields sign s.params spdu)
+received sign end.Device s at spdu = happening.Request at (request_fields sign s.params spdu)
+
 abbrev pub clock_act : Bool → Setting → ℕ → Bool → Act
 clock_act o s at holds = asked (answer_by Taken (other_rules o s holds)) (happening.Clock at)
 
@@ -118,6 +135,11 @@ receive_response m b port at spdu safe = placed b port (response_at m port (port
 
 abbrev pub receive_request : Method → Bench → ℕ → ℕ → List ℕ → List ℕ → BenchAfter
 receive_request m b port at spdu safe = placed b port (request_at m port (port_at b port) at spdu safe)
+
+-- the two, by the end
+abbrev pub receive : Method → Bench → ℕ → End → ℕ → List ℕ → List ℕ → BenchAfter
+receive m b port end.Master at spdu safe = receive_response m b port at spdu safe
+receive m b port end.Device at spdu safe = receive_request m b port at spdu safe
 
 abbrev pub clock : Bench → ℕ → ℕ → List ℕ → List ℕ → BenchAfter
 clock b port at safe_in safe_out = placed b port (clock_at port (port_at b port) at safe_in safe_out)

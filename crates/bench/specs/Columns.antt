@@ -1,6 +1,6 @@
 -- Method: a bench whose ports stand in three columns, as whoever steps them many times keeps them. What is meant is the bench (Ports.antt).
 -- Assumes nothing.
-use Rattle.std.specs.Prelude.{ℕ, ◌<◌, Bool, List, [], ◌∷◌, get_or, set}
+use Rattle.std.specs.Prelude.{ℕ, ◌<◌, List, [], ◌∷◌, get_or, set, map, Option}
 use Rattle.histogram.specs.Samples.{bin_count}
 use Rattle.histogram.specs.Counted.{raised_if}
 use Rattle.bench.specs.declared.Setting.{Setting}
@@ -10,16 +10,13 @@ use Rattle.bench.specs.declared.Bench.{Bench}
 
 -- the columns of some ports
 abbrev pub settings_in : List Port → List Setting
-settings_in [] = []
-settings_in (p ∷ ports) = p.setting ∷ settings_in ports
+settings_in ports = map (λ p. p.setting) ports
 
 abbrev pub lives_in : List Port → List Live
-lives_in [] = []
-lives_in (p ∷ ports) = p.live ∷ lives_in ports
+lives_in ports = map (λ p. p.live) ports
 
 abbrev pub bins_in : List Port → List (List ℕ)
-bins_in [] = []
-bins_in (p ∷ ports) = p.bins ∷ bins_in ports
+bins_in ports = map (λ p. p.bins) ports
 
 abbrev pub settings_of : Bench → List Setting
 settings_of b = settings_in b.ports
@@ -46,9 +43,9 @@ ports_of settings lives bins = beside (λ f b. f b) (beside joined settings live
 abbrev pub packed : List Setting → List Live → List (List ℕ) → Bench
 packed settings lives bins = record { ports = ports_of settings lives bins }
 
--- the bins after a turn of the port in place k which counts in bin i, or does not
-abbrev pub raised_at : List (List ℕ) → ℕ → Bool → ℕ → List (List ℕ)
-raised_at bins k counts i = set bins k (raised_if counts (get_or bins k []) i)
+-- the bins after a turn of the port in place k which raises this bin, or none
+abbrev pub raised_at : List (List ℕ) → ℕ → Option ℕ → List (List ℕ)
+raised_at bins k bin = set bins k (raised_if (get_or bins k []) bin)
 
 abbrev pub IsBin : ℕ → Type 0
 IsBin i = i < bin_count

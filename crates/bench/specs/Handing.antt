@@ -1,6 +1,7 @@
 -- What a call handed on, at one end of a port (R26): by the mark of the call's reply, from the bench that the call returned and what was lent to the
 -- call. None of these is believed (docs/DECISIONS.md). An SPDU is read by a method of signing. Assumes nothing.
-use Rattle.std.specs.Prelude.{ℕ, Bool, cond, not, ◌&&◌, List, [], ◌∷◌, ◌++◌, eqb, leb, length, drop}
+use Rattle.std.specs.Prelude.{ℕ, ◌≡◌, true, false, Bool, cond, not, ◌&&◌, List, [], ◌∷◌, ◌++◌, eqb, leb, length, drop}
+use Rattle.answer.specs.declared.Answer.{Answer}
 use Rattle.answer.specs.declared.Answer.TheVariants.{Taken, Buffer, SpduLength}
 use Rattle.answer.specs.Answers.{is_taken}
 use Rattle.answer.specs.Rules.{Rule, rule, answer_by}
@@ -62,6 +63,16 @@ abbrev pub lent_rules : ℕ → Port → End → Mark → ℕ → Bool → List 
 lent_rules port p e mark n holds =
     call_rules port p.setting
     ++ (rule (is_fresh mark && not (eqb n (length_at e p.setting.params))) SpduLength ∷ rule (not holds) Buffer ∷ [])
+
+-- the part, or the answer of a refusal
+abbrev pub Parted : Method → ℕ → Port → End → Mark → List ℕ → List ℕ → List ℕ → Type 0
+Parted m port p e mark spdu safe part =
+    (is_taken (answer_by Taken (lent_rules port p e mark (length spdu) (safe_holds_at e p.setting.params safe))) ≡ true)
+    × (part ≡ part_at m e p mark spdu safe)
+
+abbrev pub Unparted : ℕ → Port → End → Mark → List ℕ → List ℕ → Answer → Type 0
+Unparted port p e mark spdu safe a =
+    (a ≡ answer_by Taken (lent_rules port p e mark (length spdu) (safe_holds_at e p.setting.params safe))) × (is_taken a ≡ false)
 
 -- the part; empty in a refusal
 unfoldable pub handed_on : Method → ℕ → Port → End → Mark → List ℕ → List ℕ → List ℕ

@@ -1,5 +1,6 @@
 -- A port, a bench of eight, and one happening at a port. Assumes nothing.
-use Rattle.std.specs.Prelude.{ℕ, ◌-◌, true, false, cond, [], get_or, set, replicate}
+use Rattle.std.specs.Prelude.{ℕ, ◌-◌, true, false, cond, [], get_or, set, replicate, Option, Some, None, unwrap_or, option_map}
+use Rattle.std.specs.Option.{option_and}
 use Rattle.answer.specs.declared.Answer.{Answer}
 use Rattle.answer.specs.declared.Answer.TheVariants.{Taken}
 use Rattle.ranges.specs.Fields.{outside}
@@ -18,7 +19,6 @@ use Rattle.bench.specs.declared.Setting.{Setting}
 use Rattle.bench.specs.declared.Live.{Live}
 use Rattle.bench.specs.declared.Port.{Port}
 use Rattle.bench.specs.declared.Bench.{Bench}
-use Rattle.bench.specs.declared.Place.{Place}
 use Rattle.bench.specs.declared.Turned.{Turned}
 use Rattle.bench.specs.declared.Reply.{Reply}
 
@@ -98,9 +98,13 @@ no_port = record {
   bins = [];
 }
 
--- where the port of a number stands; of a number that no port has, the first place
-abbrev pub place_of : ℕ → Place
-place_of port = record { index = cond (outside 1 8 port) 0 (port - 1); outside = outside 1 8 port }
+-- where the port of a number stands; none where no port has the number
+abbrev pub place_of : ℕ → Option ℕ
+place_of port = cond (outside 1 8 port) None (Some (port - 1))
+
+-- its index; where no port has the number the first one's, which is then not looked at
+abbrev pub index_of : ℕ → ℕ
+index_of port = cond (outside 1 8 port) 0 (port - 1)
 
 -- the port of a number; of a number that no port has, a port that never ran
 unfoldable pub port_at : Bench → ℕ → Port
@@ -116,18 +120,17 @@ turn_of s l h =
     let w = s.params.FSP_WatchdogTime in
     let m = master_turn_of l.master w h in
     let d = devices.step_of l.device w h in
-    let c = tallied_by l.totals w m.releases m.t in
+    let c = tallied_by l.totals w m.t in
     record {
-      live = record { totals = c.totals; device = d.device; master = m.master; unused = l.unused };
-      counts = c.counted;
-      bin = bin_of w m.t;
+      live = record { totals = unwrap_or c l.totals; device = d.device; master = m.master; unused = l.unused };
+      bin = option_and c (option_map (bin_of w) m.t);
       master = m.mark;
       device = d.mark;
     }
 
 -- the port with what a turn changes
 unfoldable pub stored : Port → Turned → Port
-stored p t = record { setting = p.setting; live = t.live; bins = raised_if t.counts p.bins t.bin }
+stored p t = record { setting = p.setting; live = t.live; bins = raised_if p.bins t.bin }
 
 -- what the call says
 unfoldable pub said : Turned → Reply

@@ -1,6 +1,6 @@
 -- Method: the turn that nearly every record of a session takes: a response in time, by T4, that is a sample, at a port whose FS-Device is unchanged. It is said here
 -- as it is worked out; proofs/Regulars.antt has that it is `turn_of`. Assumes nothing.
-use Rattle.std.specs.Prelude.{ℕ, Bool, true, false, ◌&&◌}
+use Rattle.std.specs.Prelude.{ℕ, Bool, true, false, ◌&&◌, Some, None, is_some, unwrap_or, option_map}
 use Rattle.scl.specs.Time.{elapsed_of}
 use Rattle.scl.specs.Happenings.{mark_of}
 use Rattle.scl.specs.declared.Mark.TheVariants.{Nothing}
@@ -28,7 +28,7 @@ is_regular_response s l at f =
     masters.is_regular l.master w at f
     && devices.unchanged l.device w (happening.Response at f)
     && uses_PDin T4 f.SDset l.master.setSD_C
-    && (tallied_by l.totals w true (elapsed_at l at)).counted
+    && is_some (tallied_by l.totals w (Some (elapsed_at l at)))
 
 unfoldable pub is_regular : Setting → Live → Happening → Bool
 is_regular s l (happening.Response at f) = is_regular_response s l at f
@@ -39,19 +39,18 @@ is_regular s l (happening.Operator at setSD_C ChFAck_C) = false
 abbrev pub regular_response : Setting → Live → ℕ → Response → Turned
 regular_response s l at f =
     let w = s.params.FSP_WatchdogTime in
-    let c = tallied_by l.totals w true (elapsed_at l at) in
+    let c = tallied_by l.totals w (Some (elapsed_at l at)) in
     let m = t4 (admitted l.master f) at f.SDset in
     record {
-      live = record { totals = c.totals; device = l.device; master = m; unused = l.unused };
-      counts = c.counted;
-      bin = bin_of w (elapsed_at l at);
+      live = record { totals = unwrap_or c l.totals; device = l.device; master = m; unused = l.unused };
+      bin = option_map (λ _. bin_of w (elapsed_at l at)) c;
       master = mark_of true m.released;
       device = mark_of false l.device.released;
     }
 
 -- nothing changes
 abbrev pub still : Live → Turned
-still l = record { live = l; counts = false; bin = 0; master = Nothing; device = Nothing }
+still l = record { live = l; bin = None; master = Nothing; device = Nothing }
 
 unfoldable pub regular_of : Setting → Live → Happening → Turned
 regular_of s l (happening.Response at f) = regular_response s l at f

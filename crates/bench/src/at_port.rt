@@ -30,9 +30,8 @@ pub(crate) fn new_port() -> Port
 pub fn new_bench() -> Bench
     ensures { result ≡ ports.new_bench }
 {
-    let p = new_port();
     Bench {
-        ports: [p; PORT_COUNT],
+        ports: [new_port(); PORT_COUNT],
     }
 }
 
@@ -52,14 +51,10 @@ pub(crate) fn accepted_port(p: Port, params: Params, at: u32) -> Port
 pub(crate) fn stored(p: Port, turned: Turned) -> Port
     ensures { result ≡ ports.stored p turned }
 {
-    let setting = p.setting;
-    let live = turned.live;
-    let old = p.bins;
-    let bins = histogram::raised(old, turned.counts, turned.bin);
     Port {
-        setting,
-        live,
-        bins,
+        live: turned.live,
+        bins: histogram::raised(p.bins, turned.bin),
+        ..p
     }
 }
 
@@ -68,15 +63,12 @@ pub(crate) fn stored(p: Port, turned: Turned) -> Port
 pub(crate) fn said(turned: Turned) -> Reply
     ensures { result ≡ ports.said turned }
 {
-    let live = turned.live;
-    let master = turned.master;
-    let device = turned.device;
     Reply {
         answer: Answer::Taken,
-        master,
-        device,
-        master_releases: live.master.released,
-        device_releases: live.device.released,
+        master: turned.master,
+        device: turned.device,
+        master_releases: turned.live.master.released,
+        device_releases: turned.live.device.released,
     }
 }
 

@@ -6,25 +6,23 @@ ghost use Rattle.bench.specs.Ports as ports;
 ghost use Rattle.bench.specs.Calls as calls;
 ghost use Rattle.bench.specs.Storing as storing;
 
-use crate::acts::{clock_act, operator_act, parameters_act, place_of, request_act, response_act};
+use crate::acts::{clock_act, operator_act, parameters_act, place_of, spdu_act};
 use crate::at_port::{accepted_port, new_port, said, silent, stored};
 use crate::turns::turn;
-use crate::{Act, Bench, BenchAfter, Port};
+use crate::{Act, Bench, BenchAfter, End, Port};
 use answer::Answer;
 use block::Params;
 use scl::Happening;
-use signature::Engine;
+use signature::{Engine, Signing};
 
 #[tactic(auto, unfolding(crate::specs::Ports::port_at, crate::specs::Ports::no_port))]
 pub(crate) fn port_at(b: Bench, port: u8) -> Port
     ensures { result ≡ ports.port_at b port }
 {
-    let place = place_of(port);
-    if place.outside {
-        return new_port();
+    match place_of(port) {
+        Some(i) => b.ports[i],
+        None => new_port(),
     }
-    let i = place.index;
-    b.ports[i]
 }
 
 // The bench with another port in place i.
@@ -100,30 +98,51 @@ fn happened(b: Bench, i: usize, p: Port, act: Act) -> BenchAfter
     }
 }
 
-fn safe_in_hold(params: Params, safe: &[u8]) -> bool
-    ensures { result ≡ calls.safe_in_hold params safe.now }
-{
-    spdu::safe_values_hold(params.FSP_ProtMode, params.SPDUInLength as usize, safe)
-}
-
-fn safe_out_hold(params: Params, safe: &[u8]) -> bool
-    ensures { result ≡ calls.safe_out_hold params safe.now }
-{
-    spdu::safe_values_hold(params.FSP_ProtMode, params.SPDUOutLength as usize, safe)
-}
-
 pub fn set_parameters(engine: Engine, b: Bench, port: u8, at: u32, octets: &[u8]) -> BenchAfter
     ensures { result ≡ calls.set_parameters annex_d b port at octets.now }
 {
-    let place = place_of(port);
-    let i = place.index;
-    let p = b.ports[i];
-    let short = signature::table16_for(engine);
-    let act = parameters_act(engine, &short, port, octets);
-    acted(b, i, p, at, act)
+    let Some(i) = place_of(port) else {
+        return refused(b, Answer::NoPort);
+    };
+    let short = signature::table_for::<u16>(engine);
+    let long = signature::table_for::<u32>(engine);
+    let signing = Signing {
+        engine,
+        short: &short,
+        long: &long,
+    };
+    let act = parameters_act(&signing, port, octets);
+    acted(b, i, b.ports[i], at, act)
 }
 
-// An SPDU received as FS-Master, with as many zeros as it has process octets.
+// An SPDU received at an end, with as many zeros as it has process octets.
+fn receive(
+    engine: Engine,
+    b: Bench,
+    port: u8,
+    end: End,
+    at: u32,
+    spdu: &[u8],
+    safe: &[u8],
+) -> BenchAfter
+    ensures { result ≡ calls.receive annex_d b port end at spdu.now safe.now }
+{
+    let Some(i) = place_of(port) else {
+        return refused(b, Answer::NoPort);
+    };
+    let p = b.ports[i];
+    let short = signature::table_for::<u16>(engine);
+    let long = signature::table_for::<u32>(engine);
+    let signing = Signing {
+        engine,
+        short: &short,
+        long: &long,
+    };
+    let holds = end.safe_hold(p.setting.params, safe);
+    let act = spdu_act(&signing, end, Some(p.setting), at, spdu, holds);
+    happened(b, i, p, act)
+}
+
 pub fn receive_response(
     engine: Engine,
     b: Bench,
@@ -134,27 +153,9 @@ pub fn receive_response(
 ) -> BenchAfter
     ensures { result ≡ calls.receive_response annex_d b port at spdu.now safe.now }
 {
-    let place = place_of(port);
-    let i = place.index;
-    let p = b.ports[i];
-    let short = signature::table16_for(engine);
-    let long = signature::table32_for(engine);
-    let setting = p.setting;
-    let holds = safe_in_hold(setting.params, safe);
-    let act = response_act(
-        engine,
-        &short,
-        &long,
-        place.outside,
-        setting,
-        at,
-        spdu,
-        holds,
-    );
-    happened(b, i, p, act)
+    receive(engine, b, port, End::Master, at, spdu, safe)
 }
 
-// An SPDU received as FS-Device, with as many zeros as it has process octets.
 pub fn receive_request(
     engine: Engine,
     b: Bench,
@@ -165,35 +166,19 @@ pub fn receive_request(
 ) -> BenchAfter
     ensures { result ≡ calls.receive_request annex_d b port at spdu.now safe.now }
 {
-    let place = place_of(port);
-    let i = place.index;
-    let p = b.ports[i];
-    let short = signature::table16_for(engine);
-    let long = signature::table32_for(engine);
-    let setting = p.setting;
-    let holds = safe_out_hold(setting.params, safe);
-    let act = request_act(
-        engine,
-        &short,
-        &long,
-        place.outside,
-        setting,
-        at,
-        spdu,
-        holds,
-    );
-    happened(b, i, p, act)
+    receive(engine, b, port, End::Device, at, spdu, safe)
 }
 
 pub fn clock(b: Bench, port: u8, at: u32, safe_in: &[u8], safe_out: &[u8]) -> BenchAfter
     ensures { result ≡ calls.clock b port at safe_in.now safe_out.now }
 {
-    let place = place_of(port);
-    let i = place.index;
+    let Some(i) = place_of(port) else {
+        return refused(b, Answer::NoPort);
+    };
     let p = b.ports[i];
-    let setting = p.setting;
-    let hold = safe_in_hold(setting.params, safe_in) & safe_out_hold(setting.params, safe_out);
-    happened(b, i, p, clock_act(place.outside, setting, at, hold))
+    let params = p.setting.params;
+    let hold = End::Master.safe_hold(params, safe_in) & End::Device.safe_hold(params, safe_out);
+    happened(b, i, p, clock_act(Some(p.setting), at, hold))
 }
 
 pub fn operator(
@@ -206,11 +191,11 @@ pub fn operator(
 ) -> BenchAfter
     ensures { result ≡ calls.operator b port at setSD_C ChFAck_C safe.now }
 {
-    let place = place_of(port);
-    let i = place.index;
+    let Some(i) = place_of(port) else {
+        return refused(b, Answer::NoPort);
+    };
     let p = b.ports[i];
-    let setting = p.setting;
-    let holds = safe_in_hold(setting.params, safe);
-    let act = operator_act(place.outside, setting, at, setSD_C, ChFAck_C, holds);
+    let holds = End::Master.safe_hold(p.setting.params, safe);
+    let act = operator_act(Some(p.setting), at, setSD_C, ChFAck_C, holds);
     happened(b, i, p, act)
 }

@@ -9,6 +9,7 @@ use crate::acts::port_answer;
 use crate::calls::port_at;
 use answer::Answer;
 use signature::Engine;
+use spdu::{Control, Status};
 
 // The FS-Master's outgoing image: process octets (zeros where setSD is 1) in an SPDU, other data behind it.
 #[tactic(auto, unfolding(crate::specs::Images::compose_answer, crate::specs::Images::composed))]
@@ -30,9 +31,11 @@ pub fn compose(
         spdu::compose(
             engine,
             p.setting.params,
-            m.MCount,
-            m.setSD,
-            m.ChFAckReq,
+            Control {
+                MCount: m.MCount,
+                setSD: m.setSD,
+                ChFAckReq: m.ChFAckReq,
+            },
             process,
             other,
             octets,
@@ -56,10 +59,12 @@ pub fn build_response(engine: Engine, b: Bench, port: u8, process: &[u8], out: &
             engine,
             p.setting.params,
             d.responded,
-            d.DCount_i,
-            d.SDset,
-            d.DCommErr,
-            d.DTimeout,
+            Status {
+                DCount_i: d.DCount_i,
+                SDset: d.SDset,
+                DCommErr: d.DCommErr,
+                DTimeout: d.DTimeout,
+            },
             process,
             out,
         )

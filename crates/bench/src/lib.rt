@@ -10,12 +10,13 @@ mod at_port;
 mod by_t4;
 mod calls;
 mod columns;
+mod ends;
 mod handing;
 mod images;
 mod shown;
 mod turns;
 
-pub use acts::{clock_act, operator_act, parameters_act, place_of, response_act};
+pub use acts::{clock_act, operator_act, parameters_act, place_of, spdu_act};
 use answer::Answer;
 pub use at_port::new_bench;
 use block::Params;
@@ -70,13 +71,6 @@ pub struct Bench {
     pub ports: [Port; PORT_COUNT],
 }
 
-// Where the port of a number stands: `outside` says that no port has the number, and then the index is 0.
-#[derive(Clone, Copy)]
-pub struct Place {
-    pub index: usize,
-    pub outside: bool,
-}
-
 // What a call with a reading asks of the port that it addresses.
 #[derive(Clone, Copy)]
 pub enum Act {
@@ -88,12 +82,11 @@ pub enum Act {
     Happens(Happening),
 }
 
-// What a happening makes of a port: what it changes, whether it raises a bin and which, and what each end hands on.
+// What a happening makes of a port: what it changes, the bin that it raises, if any, and what each end hands on.
 #[derive(Clone, Copy)]
 pub struct Turned {
     pub live: Live,
-    pub counts: bool,
-    pub bin: usize,
+    pub bin: Option<usize>,
     pub master: Mark,
     pub device: Mark,
 }

@@ -24,9 +24,7 @@ fn seen(port: u8, p: Port) -> Port
 fn histogram_of(p: Port) -> Histogram
     ensures { result ≡ histogram_of p }
 {
-    let totals = p.live.totals;
-    let bins = p.bins;
-    histogram::with_bins(totals, bins)
+    histogram::with_bins(p.live.totals, p.bins)
 }
 
 // The trend point; three zeros in a refusal.
@@ -36,15 +34,13 @@ pub fn trend_of(b: Bench, port: u8) -> Trend
 {
     let p = port_at(b, port);
     let shown = seen(port, p);
-    let trend = histogram::trend_of(histogram_of(shown));
-    let point = trend.point;
     Trend {
         answer: refuse(
             port_answer(port, p.setting),
             p.live.totals.total == 0,
             Answer::NoSamples,
         ),
-        point,
+        point: histogram::trend_of(histogram_of(shown)).point,
     }
 }
 
@@ -53,8 +49,8 @@ pub fn bins_of(b: Bench, port: u8) -> Bins
     ensures { result ≡ shown.bins_of port (port_at b port) }
 {
     let p = port_at(b, port);
-    let shown = seen(port, p);
-    let h = histogram_of(shown);
+    let h = histogram_of(seen(port, p));
+    // Named first, as the borrow check takes no array's field in a literal.
     let bins = h.bins;
     Bins {
         answer: port_answer(port, p.setting),
@@ -71,8 +67,10 @@ fn master_at(port: u8, p: Port) -> MasterShown
 {
     let answer = port_answer(port, p.setting);
     if answer::is_taken(answer) {
-        let master = p.live.master;
-        MasterShown { answer, master }
+        MasterShown {
+            answer,
+            master: p.live.master,
+        }
     } else {
         MasterShown {
             answer,
@@ -93,8 +91,10 @@ fn device_at(port: u8, p: Port) -> DeviceShown
 {
     let answer = port_answer(port, p.setting);
     if answer::is_taken(answer) {
-        let device = p.live.device;
-        DeviceShown { answer, device }
+        DeviceShown {
+            answer,
+            device: p.live.device,
+        }
     } else {
         DeviceShown {
             answer,

@@ -4,6 +4,7 @@ ghost use Rattle.bench.specs.Ports as ports;
 
 use crate::{Live, Setting, Turned};
 use block::Params;
+use histogram::Totals;
 use samples::{tallied, turn_master};
 use scl::Happening;
 
@@ -11,10 +12,11 @@ use scl::Happening;
 pub fn accepted(setting: Setting, params: Params) -> Setting
     ensures { result ≡ ports.accepted setting params }
 {
-    let mut n = setting;
-    n.params = params;
-    n.running = true;
-    n
+    Setting {
+        params,
+        running: true,
+        ..setting
+    }
 }
 
 // Both ends in their first state, no sample.
@@ -22,7 +24,7 @@ pub(crate) fn first_live(at: u32) -> Live
     ensures { result ≡ ports.first_live at }
 {
     Live {
-        totals: histogram::totals_of(histogram::cleared()),
+        totals: Totals::from(histogram::cleared()),
         device: fs_device::first(at),
         master: fs_master::first(at),
         unused: 0,
@@ -33,11 +35,10 @@ pub(crate) fn first_live(at: u32) -> Live
 pub fn begun(live: Live, at: u32) -> Live
     ensures { result ≡ ports.begun live at }
 {
-    let mut n = live;
-    n.totals = histogram::totals_of(histogram::cleared());
-    n.device = fs_device::first(at);
-    n.master = fs_master::first(at);
-    n
+    Live {
+        unused: live.unused,
+        ..first_live(at)
+    }
 }
 
 // A happening at a port.
@@ -47,23 +48,17 @@ pub fn turn(setting: Setting, live: Live, happening: Happening) -> Turned
 {
     let w = setting.params.FSP_WatchdogTime;
     let of_master = turn_master(live.master, w, happening);
-    let stepped = fs_device::step(live.device, w, happening);
-    let counted = tallied(live.totals, w, of_master.releases, of_master.t);
-    let totals = counted.totals;
-    let device = stepped.device;
-    let master = of_master.master;
-    let master_mark = of_master.mark;
-    let device_mark = stepped.mark;
+    let of_device = fs_device::step(live.device, w, happening);
+    let counted = tallied(live.totals, w, of_master.t);
     Turned {
         live: Live {
-            totals,
-            device,
-            master,
-            unused: live.unused,
+            totals: counted.unwrap_or(live.totals),
+            device: of_device.device,
+            master: of_master.master,
+            ..live
         },
-        counts: counted.counted,
-        bin: histogram::bin(w, of_master.t),
-        master: master_mark,
-        device: device_mark,
+        bin: counted.and(of_master.t.map(|t| histogram::bin(w, t))),
+        master: of_master.mark,
+        device: of_device.mark,
     }
 }

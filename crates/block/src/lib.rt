@@ -95,7 +95,7 @@ pub fn judge_by(engine: Engine, short: &[u16; 256], octets: &[u8], port: u8) -> 
 pub fn judge(engine: Engine, octets: &[u8], port: u8) -> Judged
     ensures { result ≡ judged octets.now port }
 {
-    let short = signature::table16_for(engine);
+    let short = signature::table_for::<u16>(engine);
     judge_by(engine, &short, octets, port)
 }
 

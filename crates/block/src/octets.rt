@@ -5,7 +5,7 @@ ghost use Rattle.block.specs.Table22.{params_of, carried, block_of, parameters_b
 ghost use Rattle.block.specs.Table22 as table22;
 
 use crate::{Block, Params, Signatures};
-use signature::{Engine, signature16_with};
+use signature::{Engine, sign_with};
 
 // Two octets as one number.
 pub fn word(a: u8, b: u8) -> u16
@@ -90,8 +90,8 @@ pub(crate) fn computed(engine: Engine, short: &[u16; 256], s: &[u8]) -> Signatur
     ensures { result ≡ table22.computed (parameters_by engine short.now) s.now }
 {
     Signatures {
-        FSP_AuthentCRC: signature16_with(engine, short, 0, &s[14..23]),
-        FSP_IO_StructCRC: signature16_with(engine, short, 0, &s[37..48]),
-        FSP_ProtParCRC: signature16_with(engine, short, 0, &s[25..35]),
+        FSP_AuthentCRC: sign_with(engine, short, 0, &s[14..23]),
+        FSP_IO_StructCRC: sign_with(engine, short, 0, &s[37..48]),
+        FSP_ProtParCRC: sign_with(engine, short, 0, &s[25..35]),
     }
 }

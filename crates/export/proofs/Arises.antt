@@ -3,6 +3,7 @@ use mathlib.Core.Path.{◌≡◌, refl}
 use mathlib.Core.Bool.{true, false}
 use mathlib.Core.List.{[], ◌∷◌, map}
 use lib.ListN.{replicate}
+use Rattle.std.specs.Prelude.{Some}
 use Rattle.answer.specs.declared.Answer.TheVariants.{FieldRange, Signature, Buffer, NotRunning, NoSamples}
 use Rattle.signature.specs.declared.Engine.TheVariants as engines
 use Rattle.block.specs.declared.Params.{Params}
@@ -17,7 +18,8 @@ use Rattle.bench.specs.declared.End.TheVariants as end
 use Rattle.bench.specs.Images.{split_answer, spdu_part, other_part}
 use Rattle.bench.proofs.Arises.{running}
 use Rattle.session.specs.declared.State.{State}
-use Rattle.session.specs.declared.Stop.TheVariants.{Full, Bad, Cut, End}
+use Rattle.std.specs.Prelude.{Option, None, Some}
+use Rattle.record.specs.declared.NoRecord.TheVariants.{Bad, Cut, End}
 use Rattle.export.specs.Told.{told_of, engine_of}
 use Rattle.export.specs.Outcomes.{device_told, master_told}
 use Rattle.export.specs.Sessions.{stop_number_of, fed_told}
@@ -30,10 +32,10 @@ pub record Told (p : Params) (m : Master) (d : Device) (t : TrendPoint) (st : St
       reply_told (record { answer = FieldRange 38; master = Safe; device = Fresh; master_releases = false; device_releases = true })
       ≡ record { number = 5; offset = 38; master = 2; device = 0; master_releases = false; device_releases = true; unused = replicate 2 0 }
   pub master :
-      master_told (record { master = m; watchdog = row38.T14; arrival = row38.T12; check = check.Port; old = true; passed = false; sent = 9; mark = GoesOn })
+      master_told (record { master = m; watchdog = Some row38.T14; arrival = Some row38.T12; check = Some check.Port; old = true; passed = false; sent = 9; mark = GoesOn })
       ≡ record { master = m; watchdog = 14; arrival = 12; check = 2; old = true; passed = false; mark = 1; unused = replicate 2 0 }
   pub device :
-      device_told (record { device = d; watchdog = row40.T30; arrival = row40.T29; check = check.Count; old = false; passed = true; mark = Safe })
+      device_told (record { device = d; watchdog = Some row40.T30; arrival = Some row40.T29; check = Some check.Count; old = false; passed = true; mark = Safe })
       ≡ record { device = d; watchdog = 30; arrival = 29; check = 3; old = false; passed = true; mark = 2; unused = replicate 2 0 }
   pub split : split_told 1 running (replicate 6 0) ≡ record { number = 0; spdu = 6; other = 0; unused = replicate 7 0 }
   pub split_refused : split_told 1 running [] ≡ record { number = 7; spdu = 0; other = 0; unused = replicate 7 0 }
@@ -44,8 +46,8 @@ pub record Told (p : Params) (m : Master) (d : Device) (t : TrendPoint) (st : St
       ≡ record { number = 9; bins = 1 ∷ []; total = 2; frozen = true; unused = replicate 2 0 }
   pub shown_master : master_shown (record { answer = NotRunning; master = m }) ≡ record { number = 9; master = m; unused = replicate 3 0 }
   pub shown_device : device_shown (record { answer = NotRunning; device = d }) ≡ record { number = 9; device = d; unused = replicate 3 0 }
-  pub fed : fed_told (record { state = st; used = 5; written = 6; stop = Cut }) ≡ record { state = st; used = 5; written = 6; stop = 2; unused = replicate 7 0 }
-  pub stops : map stop_number_of (Full ∷ Bad ∷ Cut ∷ End ∷ []) ≡ 0 ∷ 1 ∷ 2 ∷ 3 ∷ []
+  pub fed : fed_told (record { state = st; used = 5; written = 6; stop = Some Cut }) ≡ record { state = st; used = 5; written = 6; stop = 2; unused = replicate 7 0 }
+  pub stops : map stop_number_of (None ∷ Some Bad ∷ Some Cut ∷ Some End ∷ []) ≡ 0 ∷ 1 ∷ 2 ∷ 3 ∷ []
   pub engines : map engine_of (false ∷ true ∷ []) ≡ engines.Table ∷ engines.Shift ∷ []
   pub ends : map end_of (false ∷ true ∷ []) ≡ end.Master ∷ end.Device ∷ []
 

@@ -4,8 +4,9 @@ ghost use Rattle.answer.specs.Answers.{number_of};
 ghost use Rattle.histogram.specs.Samples.{bin_of};
 ghost use Rattle.histogram.specs.Counted.{frozen_of, cleared_of, counted_of};
 ghost use Rattle.histogram.specs.Trends.{trend_of};
+ghost use Rattle.export.specs.Benches as told;
 
-use histogram::{Histogram, TrendPoint};
+use histogram::{Histogram, Trend, TrendPoint};
 
 // A trend point beside its answer number.
 #[repr(C)]
@@ -14,6 +15,18 @@ pub struct NumberedTrend {
     pub point: TrendPoint,
     pub number: u8,
     pub unused: [u8; 7],
+}
+
+impl From<Trend> for NumberedTrend {
+    ghost from_gives = { λ t n. n ≡ told.trend_told t };
+
+    fn from(trend: Trend) -> NumberedTrend {
+        NumberedTrend {
+            number: answer::number(trend.answer),
+            point: trend.point,
+            unused: [0; 7],
+        }
+    }
 }
 
 #[unsafe(no_mangle)]
@@ -48,13 +61,5 @@ pub extern "C" fn whakelouna_counted(h: Histogram, w: u16, t: u16) -> Histogram
 pub extern "C" fn whakelouna_trend_of(h: Histogram) -> NumberedTrend
     ensures { result ≡ record { number = number_of (trend_of h).answer; point = (trend_of h).point; unused = replicate 7 0 } }
 {
-    let unused = [0u8; 7];
-    let trend = histogram::trend_of(h);
-    let answer = trend.answer;
-    let point = trend.point;
-    NumberedTrend {
-        number: answer::number(answer),
-        point,
-        unused,
-    }
+    NumberedTrend::from(histogram::trend_of(h))
 }

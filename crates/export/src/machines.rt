@@ -38,45 +38,37 @@ pub struct MasterOutcome {
     pub unused: [u8; 2],
 }
 
-fn device_told(outcome: fs_device::Outcome) -> DeviceOutcome
-    ensures { result ≡ device_told outcome }
-{
-    let unused = [0u8; 2];
-    let device = outcome.device;
-    let watchdog = outcome.watchdog;
-    let arrival = outcome.arrival;
-    let check = outcome.check;
-    let mark = outcome.mark;
-    DeviceOutcome {
-        device,
-        watchdog: fs_device::row_number(watchdog),
-        arrival: fs_device::row_number(arrival),
-        check: scl::check_number(check),
-        old: outcome.old,
-        passed: outcome.passed,
-        mark: scl::mark_number(mark),
-        unused,
+impl From<fs_device::Outcome> for DeviceOutcome {
+    ghost from_gives = { λ o r. r ≡ device_told o };
+
+    fn from(outcome: fs_device::Outcome) -> DeviceOutcome {
+        DeviceOutcome {
+            device: outcome.device,
+            watchdog: fs_device::row_number(outcome.watchdog),
+            arrival: fs_device::row_number(outcome.arrival),
+            check: scl::check_number(outcome.check),
+            old: outcome.old,
+            passed: outcome.passed,
+            mark: scl::mark_number(outcome.mark),
+            unused: [0; 2],
+        }
     }
 }
 
-fn master_told(outcome: fs_master::Outcome) -> MasterOutcome
-    ensures { result ≡ master_told outcome }
-{
-    let unused = [0u8; 2];
-    let master = outcome.master;
-    let watchdog = outcome.watchdog;
-    let arrival = outcome.arrival;
-    let check = outcome.check;
-    let mark = outcome.mark;
-    MasterOutcome {
-        master,
-        watchdog: fs_master::row_number(watchdog),
-        arrival: fs_master::row_number(arrival),
-        check: scl::check_number(check),
-        old: outcome.old,
-        passed: outcome.passed,
-        mark: scl::mark_number(mark),
-        unused,
+impl From<fs_master::Outcome> for MasterOutcome {
+    ghost from_gives = { λ o r. r ≡ master_told o };
+
+    fn from(outcome: fs_master::Outcome) -> MasterOutcome {
+        MasterOutcome {
+            master: outcome.master,
+            watchdog: fs_master::row_number(outcome.watchdog),
+            arrival: fs_master::row_number(outcome.arrival),
+            check: scl::check_number(outcome.check),
+            old: outcome.old,
+            passed: outcome.passed,
+            mark: scl::mark_number(outcome.mark),
+            unused: [0; 2],
+        }
     }
 }
 
@@ -103,14 +95,14 @@ pub extern "C" fn whakelouna_device_request(
 ) -> DeviceOutcome
     ensures { result ≡ device_told (devices.step_of device w (happening.Request at request)) }
 {
-    device_told(fs_device::step(device, w, Happening::Request(at, request)))
+    DeviceOutcome::from(fs_device::step(device, w, Happening::Request(at, request)))
 }
 
 #[unsafe(no_mangle)]
 pub extern "C" fn whakelouna_device_clock(device: Device, w: u16, at: u32) -> DeviceOutcome
     ensures { result ≡ device_told (devices.step_of device w (happening.Clock at)) }
 {
-    device_told(fs_device::step(device, w, Happening::Clock(at)))
+    DeviceOutcome::from(fs_device::step(device, w, Happening::Clock(at)))
 }
 
 #[unsafe(no_mangle)]
@@ -129,14 +121,14 @@ pub extern "C" fn whakelouna_master_response(
 ) -> MasterOutcome
     ensures { result ≡ master_told (masters.step_of master w (happening.Response at response)) }
 {
-    master_told(fs_master::step(master, w, Happening::Response(at, response)))
+    MasterOutcome::from(fs_master::step(master, w, Happening::Response(at, response)))
 }
 
 #[unsafe(no_mangle)]
 pub extern "C" fn whakelouna_master_clock(master: Master, w: u16, at: u32) -> MasterOutcome
     ensures { result ≡ master_told (masters.step_of master w (happening.Clock at)) }
 {
-    master_told(fs_master::step(master, w, Happening::Clock(at)))
+    MasterOutcome::from(fs_master::step(master, w, Happening::Clock(at)))
 }
 
 #[unsafe(no_mangle)]
@@ -149,5 +141,5 @@ pub extern "C" fn whakelouna_master_operator(
 ) -> MasterOutcome
     ensures { result ≡ master_told (masters.step_of master w (happening.Operator at setSD_C ChFAck_C)) }
 {
-    master_told(fs_master::step(master, w, Happening::Operator(at, setSD_C, ChFAck_C)))
+    MasterOutcome::from(fs_master::step(master, w, Happening::Operator(at, setSD_C, ChFAck_C)))
 }

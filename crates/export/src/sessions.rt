@@ -4,7 +4,8 @@ ghost use Rattle.session.specs.Run as runs;
 ghost use Rattle.export.specs.Sessions as told;
 
 use crate::signatures::engine_of;
-use session::{Fed, State, Stop};
+use record::NoRecord;
+use session::{Fed, State};
 
 #[repr(C)]
 #[derive(Clone, Copy)]
@@ -16,29 +17,26 @@ pub struct FedTold {
     pub unused: [u8; 7],
 }
 
-fn stop_number(stop: Stop) -> u8
+fn stop_number(stop: Option<NoRecord>) -> u8
     ensures { result ≡ told.stop_number_of stop }
 {
     match stop {
-        Stop::Full => 0,
-        Stop::Bad => 1,
-        Stop::Cut => 2,
-        Stop::End => 3,
+        None => 0,
+        Some(NoRecord::Bad) => 1,
+        Some(NoRecord::Cut) => 2,
+        Some(NoRecord::End) => 3,
     }
 }
 
 fn fed_told(fed: Fed) -> FedTold
     ensures { result ≡ told.fed_told fed }
 {
-    let unused = [0u8; 7];
-    let state = fed.state;
-    let stop = fed.stop;
     FedTold {
-        state,
+        state: fed.state,
         used: fed.used,
         written: fed.written,
-        stop: stop_number(stop),
-        unused,
+        stop: stop_number(fed.stop),
+        unused: [0; 7],
     }
 }
 

@@ -9,6 +9,8 @@ ghost use Rattle.export.specs.Told.{engine_of};
 use crate::signatures::engine_of;
 use block::Params;
 use scl::{Request, Response};
+use signature::Signing;
+use spdu::{Control, Status};
 
 #[unsafe(no_mangle)]
 pub extern "C" fn whakelouna_read_response_by(
@@ -20,7 +22,16 @@ pub extern "C" fn whakelouna_read_response_by(
 ) -> Response
     ensures { result ≡ response_by (by_engine (engine_of shift) short.now long.now) p octets.now }
 {
-    spdu::read_response_by(engine_of(shift), short, long, p, octets)
+    let engine = engine_of(shift);
+    spdu::read_response_by(
+        &Signing {
+            engine,
+            short,
+            long,
+        },
+        p,
+        octets,
+    )
 }
 
 #[unsafe(no_mangle)]
@@ -33,7 +44,16 @@ pub extern "C" fn whakelouna_read_request_by(
 ) -> Request
     ensures { result ≡ request_by (by_engine (engine_of shift) short.now long.now) p octets.now }
 {
-    spdu::read_request_by(engine_of(shift), short, long, p, octets)
+    let engine = engine_of(shift);
+    spdu::read_request_by(
+        &Signing {
+            engine,
+            short,
+            long,
+        },
+        p,
+        octets,
+    )
 }
 
 // Writes the FS-Master's SPDU and returns the answer's number.
@@ -52,14 +72,19 @@ pub extern "C" fn whakelouna_build_request_by(
     ensures value { result ≡ number_of (built_as (buffers_hold p.FSP_ProtMode p.SPDUOutLength (length process.now) (length out.old))) }
     ensures out_after { out.new ≡ request_built (by_engine (engine_of shift) short.now long.now) p MCount setSD ChFAckReq process.now out.old }
 {
+    let engine = engine_of(shift);
     answer::number(spdu::build_request_by(
-        engine_of(shift),
-        short,
-        long,
+        &Signing {
+            engine,
+            short,
+            long,
+        },
         p,
-        MCount,
-        setSD,
-        ChFAckReq,
+        Control {
+            MCount,
+            setSD,
+            ChFAckReq,
+        },
         process,
         out,
     ))
@@ -83,16 +108,21 @@ pub extern "C" fn whakelouna_build_response_by(
     ensures value { result ≡ number_of (built_as (buffers_hold p.FSP_ProtMode p.SPDUInLength (length process.now) (length out.old))) }
     ensures out_after { out.new ≡ response_built (by_engine (engine_of shift) short.now long.now) p responded DCount_i SDset DCommErr DTimeout process.now out.old }
 {
+    let engine = engine_of(shift);
     answer::number(spdu::build_response_by(
-        engine_of(shift),
-        short,
-        long,
+        &Signing {
+            engine,
+            short,
+            long,
+        },
         p,
         responded,
-        DCount_i,
-        SDset,
-        DCommErr,
-        DTimeout,
+        Status {
+            DCount_i,
+            SDset,
+            DCommErr,
+            DTimeout,
+        },
         process,
         out,
     ))

@@ -6,6 +6,7 @@ use mathlib.Core.Path.{◌≡◌, refl}
 use mathlib.Core.Bool.{Bool, true, false, cond, not, ◌&&◌}
 use mathlib.Core.List.{List, [], ◌∷◌, map}
 use lib.Dec.{eqb}
+use Rattle.std.specs.Prelude.{Option, Some, None}
 use Rattle.scl.specs.Time.{elapsed_of}
 use Rattle.scl.specs.Readings.{last_reading}
 use Rattle.scl.specs.Counts.{inverted}
@@ -14,14 +15,14 @@ use Rattle.scl.specs.declared.Happening.{Happening}
 use Rattle.scl.specs.declared.Happening.TheVariants as happening
 use Rattle.scl.specs.declared.Request.{Request}
 use Rattle.scl.specs.declared.Check.{Check}
-use Rattle.scl.specs.declared.Check.TheVariants.{None, Signature, Port, Count}
+use Rattle.scl.specs.declared.Check.TheVariants.{Signature, Port, Count}
 use Rattle.scl.specs.declared.Mark.{Mark}
 use Rattle.scl.specs.declared.Mark.TheVariants.{Fresh, GoesOn, Safe}
 use Rattle.fs_device.specs.declared.Device.{Device}
 use Rattle.fs_device.specs.declared.Row.{Row}
-use Rattle.fs_device.specs.declared.Row.TheVariants.{Stay, T22, T25, T28, T29, T30, T31}
+use Rattle.fs_device.specs.declared.Row.TheVariants.{T22, T25, T28, T29, T30, T31}
 use Rattle.fs_device.specs.Table40.{watchdog_row, is_admitted, checked, arrival_row, admitted, t22, t25, t28, t29, t30t31, acted, row_number_of}
-use Rattle.fs_device.specs.Calls.{watched, quiet, arrived, received, clocked, step_of, unchanged}
+use Rattle.fs_device.specs.Calls.{watched, watched_by, quiet, arrived, received, clocked, step_of, unchanged}
 use Rattle.fs_device.specs.History.{FreshBy, device_after, passed_since, had_error, had_timeout, had_error_or_timeout, cycles_since_error, cycles_since_timeout, has_admitted, last_admitted, delayed_device, delayed_outcome, last_row, last_admitted_at}
 use Rattle.fs_device.proofs.Release as release
 use Rattle.fs_device.proofs.Faults as faults
@@ -86,7 +87,7 @@ pub data Reports : Type 0 where
 
 -- what is seen of a call, with `unchanged` of the device before it, and `passed_since` and the reports after it
 pub data Seen : Type 0 where
-  seen : (watchdog arrival : Row) (check : Check) (mark : Mark) (old unchanged : Bool) (passed : ℕ) (reports : Reports) → Seen
+  seen : (watchdog arrival : Option Row) (check : Option Check) (mark : Mark) (old unchanged : Bool) (passed : ℕ) (reports : Reports) → Seen
 
 -- the block's reading; W is 100, and the clock wraps between the second call and the third
 abbrev block : ℕ
@@ -94,39 +95,39 @@ block = 4294967200
 
 unfoldable pub worked : List (Happening × Seen)
 worked =
-    (happening.Clock 4294967290, seen Stay Stay None Safe false true 0 (bits 1 0 0 1 0))
-    ∷ (happening.Request 4294967295 zeros, seen Stay Stay None Safe false false 0 (bits 1 0 0 1 0))
-    ∷ (happening.Request 4 (set 0), seen Stay T22 None Safe false false 1 (bits 1 0 0 1 0))
-    ∷ (happening.Request 14 (set 0), seen Stay Stay None Safe true false 1 (bits 1 0 0 1 0))
-    ∷ (happening.Request 24 (intact 1), seen Stay T22 None Safe false false 2 (bits 1 0 0 1 0))
-    ∷ (happening.Request 34 (intact 2), seen Stay T22 None Safe false false 3 (bits 1 0 0 1 0))
-    ∷ (happening.Request 44 (intact 3), seen Stay T22 None Fresh false false 4 (bits 0 0 0 0 0))
-    ∷ (response 144, seen Stay Stay None GoesOn false true 4 (bits 0 0 0 0 0))
-    ∷ (happening.Request 144 (set 4), seen Stay T22 None Safe false false 5 (bits 0 0 0 1 0))
-    ∷ (happening.Request 154 (asking 5), seen Stay T22 None Fresh false false 6 (bits 0 0 0 0 1))
-    ∷ (happening.Request 164 (damaged 6), seen Stay T25 Signature Safe false false 0 (bits 1 1 0 0 0))
-    ∷ (happening.Request 169 (intact 6), seen Stay Stay None Safe true false 0 (bits 1 1 0 0 0))
-    ∷ (happening.Request 174 (request 7 false true false), seen Stay T29 Port Safe false false 0 (bits 1 1 0 1 0))
-    ∷ (happening.Request 184 (intact 5), seen Stay T29 Count Safe false false 0 (bits 1 1 0 1 0))
-    ∷ (happening.Request 194 (intact 6), seen Stay T29 None Safe false false 1 (bits 1 0 0 1 0))
-    ∷ (happening.Request 204 (intact 7), seen Stay T29 None Safe false false 2 (bits 1 0 0 1 0))
-    ∷ (happening.Request 214 (intact 1), seen Stay T29 None Safe false false 3 (bits 1 0 0 1 0))
-    ∷ (happening.Request 224 (intact 2), seen Stay T28 None Safe false false 4 (bits 0 0 0 0 0))
-    ∷ (happening.Request 234 (intact 3), seen Stay T22 None Fresh false false 5 (bits 0 0 0 0 0))
-    ∷ (happening.Operator 335 true false, seen T31 Stay None Safe false false 0 (bits 1 0 1 1 0))
-    ∷ (happening.Operator 435 false false, seen Stay Stay None Safe false true 0 (bits 1 0 1 1 0))
-    ∷ (happening.Clock 436, seen T30 Stay None Safe false false 0 (bits 1 0 1 1 0))
-    ∷ (happening.Request 446 (damaged 4), seen Stay T29 Signature Safe false false 0 (bits 1 1 1 1 0))
-    ∷ (happening.Request 547 (intact 5), seen T30 T29 None Safe false false 1 (bits 1 0 1 1 0))
-    ∷ (happening.Request 557 (intact 6), seen Stay T29 None Safe false false 2 (bits 1 0 0 1 0))
+    (happening.Clock 4294967290, seen None None None Safe false true 0 (bits 1 0 0 1 0))
+    ∷ (happening.Request 4294967295 zeros, seen None None None Safe false false 0 (bits 1 0 0 1 0))
+    ∷ (happening.Request 4 (set 0), seen None (Some T22) None Safe false false 1 (bits 1 0 0 1 0))
+    ∷ (happening.Request 14 (set 0), seen None None None Safe true false 1 (bits 1 0 0 1 0))
+    ∷ (happening.Request 24 (intact 1), seen None (Some T22) None Safe false false 2 (bits 1 0 0 1 0))
+    ∷ (happening.Request 34 (intact 2), seen None (Some T22) None Safe false false 3 (bits 1 0 0 1 0))
+    ∷ (happening.Request 44 (intact 3), seen None (Some T22) None Fresh false false 4 (bits 0 0 0 0 0))
+    ∷ (response 144, seen None None None GoesOn false true 4 (bits 0 0 0 0 0))
+    ∷ (happening.Request 144 (set 4), seen None (Some T22) None Safe false false 5 (bits 0 0 0 1 0))
+    ∷ (happening.Request 154 (asking 5), seen None (Some T22) None Fresh false false 6 (bits 0 0 0 0 1))
+    ∷ (happening.Request 164 (damaged 6), seen None (Some T25) (Some Signature) Safe false false 0 (bits 1 1 0 0 0))
+    ∷ (happening.Request 169 (intact 6), seen None None None Safe true false 0 (bits 1 1 0 0 0))
+    ∷ (happening.Request 174 (request 7 false true false), seen None (Some T29) (Some Port) Safe false false 0 (bits 1 1 0 1 0))
+    ∷ (happening.Request 184 (intact 5), seen None (Some T29) (Some Count) Safe false false 0 (bits 1 1 0 1 0))
+    ∷ (happening.Request 194 (intact 6), seen None (Some T29) None Safe false false 1 (bits 1 0 0 1 0))
+    ∷ (happening.Request 204 (intact 7), seen None (Some T29) None Safe false false 2 (bits 1 0 0 1 0))
+    ∷ (happening.Request 214 (intact 1), seen None (Some T29) None Safe false false 3 (bits 1 0 0 1 0))
+    ∷ (happening.Request 224 (intact 2), seen None (Some T28) None Safe false false 4 (bits 0 0 0 0 0))
+    ∷ (happening.Request 234 (intact 3), seen None (Some T22) None Fresh false false 5 (bits 0 0 0 0 0))
+    ∷ (happening.Operator 335 true false, seen (Some T31) None None Safe false false 0 (bits 1 0 1 1 0))
+    ∷ (happening.Operator 435 false false, seen None None None Safe false true 0 (bits 1 0 1 1 0))
+    ∷ (happening.Clock 436, seen (Some T30) None None Safe false false 0 (bits 1 0 1 1 0))
+    ∷ (happening.Request 446 (damaged 4), seen None (Some T29) (Some Signature) Safe false false 0 (bits 1 1 1 1 0))
+    ∷ (happening.Request 547 (intact 5), seen (Some T30) (Some T29) None Safe false false 1 (bits 1 0 1 1 0))
+    ∷ (happening.Request 557 (intact 6), seen None (Some T29) None Safe false false 2 (bits 1 0 0 1 0))
     ∷ []
 
 -- the first SPDU has a count that is neither 0 nor follows it
 unfoldable pub miscounted : List (Happening × Seen)
 miscounted =
-    (happening.Request 4 (intact 2), seen Stay T25 Count Safe false false 0 (bits 1 1 0 1 0))
-    ∷ (happening.Request 14 (intact 3), seen Stay T29 None Safe false false 1 (bits 1 1 0 1 0))
-    ∷ (happening.Request 24 (intact 4), seen Stay T29 None Safe false false 2 (bits 1 0 0 1 0))
+    (happening.Request 4 (intact 2), seen None (Some T25) (Some Count) Safe false false 0 (bits 1 1 0 1 0))
+    ∷ (happening.Request 14 (intact 3), seen None (Some T29) None Safe false false 1 (bits 1 1 0 1 0))
+    ∷ (happening.Request 24 (intact 4), seen None (Some T29) None Safe false false 2 (bits 1 0 0 1 0))
     ∷ []
 
 abbrev bit : Bool → ℕ
@@ -145,7 +146,7 @@ seen_in past (h ∷ later) =
     ∷ seen_in (h ∷ past) later
 
 pub arises : (seen_in [] (map (λ row. row.0) worked) ≡ map (λ row. row.1) worked) × (seen_in [] (map (λ row. row.0) miscounted) ≡ map (λ row. row.1) miscounted)
-unfolding worked miscounted seen_in device_after passed_since unchanged step_of clocked received arrived quiet watched acted watchdog_row is_admitted checked arrival_row admitted t22 t25 t28 t29 t30t31 elapsed_of
+unfolding worked miscounted seen_in device_after passed_since unchanged step_of clocked received arrived quiet watched watched_by acted watchdog_row is_admitted checked arrival_row admitted t22 t25 t28 t29 t30t31 elapsed_of
 arises = (refl, refl)
 
 unfoldable pub up_to : ℕ → List Happening → List Happening → List Happening
@@ -173,10 +174,10 @@ pub record Words : Type 0 where
   pub admitted_at : last_admitted_at block 100 (past_before 8) ≡ 44
   pub row_at : last_row block 100 (past_before 20) ≡ 335
   pub still_at : last_admitted_at block 100 (past_before 20) ≡ 234
-  pub numbers : map row_number_of (Stay ∷ T22 ∷ T25 ∷ T28 ∷ T29 ∷ T30 ∷ T31 ∷ []) ≡ 0 ∷ 22 ∷ 25 ∷ 28 ∷ 29 ∷ 30 ∷ 31 ∷ []
+  pub numbers : map row_number_of (None ∷ Some T22 ∷ Some T25 ∷ Some T28 ∷ Some T29 ∷ Some T30 ∷ Some T31 ∷ []) ≡ 0 ∷ 22 ∷ 25 ∷ 28 ∷ 29 ∷ 30 ∷ 31 ∷ []
 
 pub words : Words
-unfolding worked up_to last_reading device_after step_of clocked received arrived quiet watched acted watchdog_row is_admitted checked arrival_row admitted t22 t25 t28 t29 t30t31 elapsed_of
+unfolding worked up_to last_reading device_after step_of clocked received arrived quiet watched watched_by acted watchdog_row is_admitted checked arrival_row admitted t22 t25 t28 t29 t30t31 elapsed_of
 words = record { admitted_at = refl; row_at = refl; still_at = refl; numbers = refl }
 
 -- the theorems of these names, of calls of the history
@@ -187,7 +188,7 @@ pub record Met : Type 0 where
   pub set_first : 3 < passed_since block 100 (past_before 18)
   pub after_error : 4 < passed_since block 100 (past_before 19)
   pub mirrored : (device_before 7).DCount_i ≡ inverted (device_before 7).MCount
-  pub in_time : watchdog_row (device_before 7) 100 144 ≡ Stay
+  pub in_time : watchdog_row (device_before 7) 100 144 ≡ None
   pub unchanged_same : (step_of (device_before 7) 100 beside).device ≡ device_before 7
   pub delayed_step : step_of (delayed_device 5 (device_before 7)) 100 (delayed_happening 5 beside) ≡ delayed_outcome 5 (step_of (device_before 7) 100 beside)
   pub delayed_after : device_after (delayed 5 block) 100 (delayed_past 5 (past_before 3)) ≡ delayed_device 5 (device_before 3)
@@ -214,7 +215,7 @@ pub record Met : Type 0 where
   pub timeout_over : (had_timeout block 100 (past_before 23) ≡ true) × (cycles_since_timeout block 100 (past_before 23) ≤ 1)
 
 pub met : Met
-unfolding worked up_to device_after has_admitted had_error_or_timeout had_error had_timeout cycles_since_error cycles_since_timeout unchanged step_of clocked received arrived quiet watched acted watchdog_row is_admitted checked arrival_row admitted t22 t25 t28 t29 t30t31 elapsed_of
+unfolding worked up_to device_after has_admitted had_error_or_timeout had_error had_timeout cycles_since_error cycles_since_timeout unchanged step_of clocked received arrived quiet watched watched_by acted watchdog_row is_admitted checked arrival_row admitted t22 t25 t28 t29 t30t31 elapsed_of
 met = record {
   fresh_only = release.fresh_only (device_before 6) 100 releasing refl;
   fresh_if =

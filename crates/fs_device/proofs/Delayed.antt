@@ -3,6 +3,7 @@ use Prim.Native.Nat.{ℕ, ◌<◌, ◌^◌}
 use mathlib.Core.Path.{◌≡◌, refl, ap}
 use mathlib.Core.Bool.{Bool, false, ◌||◌}
 use mathlib.Core.List.{List, [], ◌∷◌}
+use Rattle.std.specs.Prelude.{Option, Some, None}
 use Rattle.scl.specs.Happenings.{is_failure, reading_of}
 use Rattle.scl.specs.declared.Happening.{Happening}
 use Rattle.scl.specs.declared.Happening.TheVariants as happening
@@ -14,9 +15,9 @@ use Rattle.scl.specs.declared.Request.{Request}
 use Rattle.fs_device.specs.declared.Device.{Device}
 use Rattle.fs_device.specs.declared.Outcome.{Outcome}
 use Rattle.fs_device.specs.declared.Row.{Row}
-use Rattle.fs_device.specs.declared.Row.TheVariants.{Stay, T22, T25, T28, T29, T30, T31}
+use Rattle.fs_device.specs.declared.Row.TheVariants.{T22, T25, T28, T29, T30, T31}
 use Rattle.fs_device.specs.Table40.{watchdog_row, is_old, is_admitted, checked, arrival_row, admitted, t22, t25, t28, t29, t30t31, acted, first_device}
-use Rattle.fs_device.specs.Calls.{watched, quiet, arrived, received, clocked, step_of}
+use Rattle.fs_device.specs.Calls.{watched, watched_by, quiet, arrived, received, clocked, step_of}
 use Rattle.scl.specs.Delayed.{delayed, delayed_happening, delayed_past, OnClock, none, more}
 use Rattle.fs_device.specs.History.{device_after, arrives, watches, delayed_device, delayed_outcome}
 use Rattle.fs_device.proofs.Watchdog.{timer_reads}
@@ -24,7 +25,6 @@ use Rattle.fs_device.proofs.Watchdog.{timer_reads}
 module _ (k : ℕ) where
   delayed-act : (d : Device) (r : Row) (at : ℕ) (setSD CommErr : Bool) → acted (delayed_device k d) r (delayed k at) setSD CommErr ≡ delayed_device k (acted d r at setSD CommErr)
   unfolding delayed_device acted t22 t25 t28 t29 t30t31
-  delayed-act d Stay at setSD CommErr = refl
   delayed-act d T22 at setSD CommErr = refl
   delayed-act d T25 at setSD CommErr = refl
   delayed-act d T28 at setSD CommErr = refl
@@ -32,19 +32,24 @@ module _ (k : ℕ) where
   delayed-act d T30 at setSD CommErr = refl
   delayed-act d T31 at setSD CommErr = refl
 
+  delayed-by : (d : Device) (r : Option Row) (at : ℕ) → watched_by (delayed_device k d) r (delayed k at) ≡ delayed_device k (watched_by d r at)
+  unfolding watched_by
+  delayed-by d None at = refl
+  delayed-by d (Some r) at = delayed-act d r at false false
+
   delayed_watchdog : (d : Device) (w at : ℕ) → d.DTimer < 2 ^ 32 → at < 2 ^ 32 → watchdog_row (delayed_device k d) w (delayed k at) ≡ watchdog_row d w at
   unfolding delayed_device watchdog_row
   delayed_watchdog d w at fits reading-fits = simp (shifted at d.DTimer k reading-fits fits)
 
   delayed-watched : (d : Device) (w at : ℕ) → d.DTimer < 2 ^ 32 → at < 2 ^ 32 → watched (delayed_device k d) w (delayed k at) ≡ delayed_device k (watched d w at)
   unfolding watched
-  delayed-watched d w at fits reading-fits = rw (delayed_watchdog d w at fits reading-fits) (delayed-act d (watchdog_row d w at) at false false)
+  delayed-watched d w at fits reading-fits = rw (delayed_watchdog d w at fits reading-fits) (delayed-by d (watchdog_row d w at) at)
 
   delayed-admitted : (d : Device) (q : Request) → admitted (delayed_device k d) q ≡ delayed_device k (admitted d q)
   unfolding admitted delayed_device
   delayed-admitted d q = refl
 
-  delayed-quiet : (d : Device) (r : Row) (old : Bool) → quiet (delayed_device k d) r old ≡ delayed_outcome k (quiet d r old)
+  delayed-quiet : (d : Device) (r : Option Row) (old : Bool) → quiet (delayed_device k d) r old ≡ delayed_outcome k (quiet d r old)
   unfolding quiet delayed_device delayed_outcome
   delayed-quiet d r old = refl
 
@@ -56,7 +61,7 @@ module _ (k : ℕ) where
   unfolding delayed_device
   delayed_released d = refl
 
-  delayed-arrived : (d : Device) (r : Row) (at : ℕ) (q : Request) (failed : Check) → arrived (delayed_device k d) r (delayed k at) q failed ≡ delayed_outcome k (arrived d r at q failed)
+  delayed-arrived : (d : Device) (r : Option Row) (at : ℕ) (q : Request) (failed : Option Check) → arrived (delayed_device k d) r (delayed k at) q failed ≡ delayed_outcome k (arrived d r at q failed)
   unfolding arrived delayed_outcome
   delayed-arrived d r at q failed =
       simp (delayed_arrival d (is_failure failed), delayed-admitted d q, delayed-act (admitted d q) (arrival_row d (is_failure failed)) at q.setSD (is_failure failed), delayed_released)
@@ -73,7 +78,7 @@ module _ (k : ℕ) where
   unfolding delayed_device
   delayed-old d q = refl
 
-  delayed-received : (d : Device) (r : Row) (at : ℕ) (q : Request) → received (delayed_device k d) r (delayed k at) q ≡ delayed_outcome k (received d r at q)
+  delayed-received : (d : Device) (r : Option Row) (at : ℕ) (q : Request) → received (delayed_device k d) r (delayed k at) q ≡ delayed_outcome k (received d r at q)
   unfolding received
   delayed-received d r at q =
       rw (delayed_admitting d q, delayed_check d q, delayed-old d q)

@@ -6,6 +6,7 @@ use mathlib.Core.List.{List, [], ◌∷◌}
 use mathlib.Core.Logic.{◌⊎◌, inl, inr}
 use lib.Dec.{eqb}
 use borrow.Author.Tests.{eqb-true, le-ltb, not-true}
+use Rattle.std.specs.Prelude.{Option, None}
 use Rattle.scl.specs.Time.{elapsed_of, expired_of}
 use Rattle.scl.specs.Happenings.{reading_of, is_failure}
 use Rattle.scl.specs.declared.Happening.{Happening}
@@ -18,29 +19,28 @@ use Rattle.scl.specs.declared.Request.{Request}
 use Rattle.fs_device.specs.declared.Device.{Device}
 use Rattle.fs_device.specs.declared.Outcome.{Outcome}
 use Rattle.fs_device.specs.declared.Row.{Row}
-use Rattle.fs_device.specs.declared.Row.TheVariants.{Stay}
 use Rattle.fs_device.specs.Table40.{timeout_row, watchdog_row, is_old, is_admitted, count_holds, checked, arrival_row, admitted, t22, t25, t28, t29, t30t31, acted}
-use Rattle.fs_device.specs.Calls.{watched, quiet, arrived, received, clocked, step_of, unchanged}
+use Rattle.fs_device.specs.Calls.{watched, watched_by, quiet, arrived, received, clocked, step_of, unchanged}
 use Rattle.fs_device.proofs.Rows.{watched_case, row_case, call_case}
 use Rattle.fs_device.specs.History.{device_after, Mirrors, admitted_by, last_admitted, asked_by, last_asked, waits, sound}
 
 -- Time
 
-stays : (runs expired : Bool) (r : Row) → expired ≡ false → cond (runs && expired) r Stay ≡ Stay
+stays : (runs expired : Bool) (r : Option Row) → expired ≡ false → cond (runs && expired) r None ≡ None
 stays true expired r e = simp e
 stays false expired r e = refl
 
 -- With elapsed at most W no watchdog row acts.
-pub in_time : (d : Device) (w at : ℕ) → elapsed_of at d.DTimer ≤ w → watchdog_row d w at ≡ Stay
+pub in_time : (d : Device) (w at : ℕ) → elapsed_of at d.DTimer ≤ w → watchdog_row d w at ≡ None
 unfolding watchdog_row
 in_time d w at h = stays d.runs (expired_of at d.DTimer w) (timeout_row d.state) (le-ltb w (elapsed_of at d.DTimer) h)
 
 pub in_time_watched : (d : Device) (w at : ℕ) → elapsed_of at d.DTimer ≤ w → watched d w at ≡ d
-unfolding watched acted
+unfolding watched watched_by
 in_time_watched d w at h = rw (in_time d w at h)
 
 watched-unchanged : (d : Device) (w at : ℕ) → not (d.runs && expired_of at d.DTimer w) ≡ true → watched d w at ≡ d
-unfolding watched watchdog_row acted
+unfolding watched watched_by watchdog_row
 watched-unchanged d w at e = rw (not-true (d.runs && expired_of at d.DTimer w) e)
 
 -- Where no SPDU came for it and its watchdog is not over, the device is as it was.
@@ -86,7 +86,7 @@ watched_keeps d w at n asked k = watched_case d w at (λ _ j. Keeps j n asked) k
     late : Keeps (t30t31 d at) n asked
     late = record { counted = k.counted; asks = k.asks }
 
-received_keeps : (d : Device) (r : Row) (at n : ℕ) (q : Request) (asked : Bool) → Keeps d n asked
+received_keeps : (d : Device) (r : Option Row) (at n : ℕ) (q : Request) (asked : Bool) → Keeps d n asked
     → Keeps (received d r at q).device (cond (is_admitted d q) q.MCount n) (cond (is_admitted d q) q.ChFAckReq asked)
 unfolding received arrived quiet t22 t25 t28 t29 admitted
 received_keeps d r at n q asked k = go (is_admitted d q)
@@ -200,11 +200,11 @@ error_safe : (d : Device) (at : ℕ) (q : Request) → (acted (admitted d q) (ar
 unfolding arrival_row acted t25 t29
 error_safe d at q = cond_case (λ (r : Row). (acted (admitted d q) r at q.setSD true).released ≡ false) (eqb d.state 26) (λ _. refl) (λ _. refl)
 
-arrived-safe : (d : Device) (r : Row) (at : ℕ) (q : Request) (failed : Check) → is_failure failed ≡ true → Safely (arrived d r at q failed)
+arrived-safe : (d : Device) (r : Option Row) (at : ℕ) (q : Request) (failed : Option Check) → is_failure failed ≡ true → Safely (arrived d r at q failed)
 unfolding arrived
 arrived-safe d r at q failed e = rw e (simp (error_safe d at q), error_safe d at q)
 
-received-safe : (d : Device) (r : Row) (at : ℕ) (q : Request) → is_admitted d q ≡ true → sound d q ≡ false → Safely (received d r at q)
+received-safe : (d : Device) (r : Option Row) (at : ℕ) (q : Request) → is_admitted d q ≡ true → sound d q ≡ false → Safely (received d r at q)
 unfolding received checked
 received-safe d r at q t s = rw t (arrived-safe d r at q (checked d q) (failed q.signature_holds q.port_holds (count_holds d q) ∙ ap not s))
 
@@ -220,7 +220,7 @@ not-admitted false true true e = refl
 not-admitted false true false e = refl
 not-admitted false false wait e = no (cc)
 
-quiet-device : (d : Device) (r : Row) (at : ℕ) (q : Request) → (q.all_zero || is_old d q) ≡ true → (received d r at q).device ≡ d
+quiet-device : (d : Device) (r : Option Row) (at : ℕ) (q : Request) → (q.all_zero || is_old d q) ≡ true → (received d r at q).device ≡ d
 unfolding received is_admitted quiet
 quiet-device d r at q e = rw (not-admitted q.all_zero (is_old d q) (waits d) e)
 

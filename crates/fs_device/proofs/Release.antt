@@ -1,11 +1,12 @@
 -- When the FS-Device releases. Assumes nothing.
 use Prim.Native.Nat.{ℕ, ◌+◌, ◌≤◌, ◌<◌}
 use native.Mathlib.Omega.{arith}
-use mathlib.Core.Path.{◌≡◌, refl, sym}
+use mathlib.Core.Path.{◌≡◌, refl, sym, ap}
 use mathlib.Core.Bool.{Bool, true, false, cond, not, ◌&&◌, ◌||◌}
 use mathlib.Core.List.{List, [], ◌∷◌}
 use lib.Dec.{eqb}
 use borrow.Author.Tests.{eqb-true, not-true, not-false}
+use Rattle.std.specs.Prelude.{Option, Some}
 use Rattle.scl.specs.Happenings.{reading_of, check_of, is_failure, mark_of}
 use Rattle.scl.specs.declared.Happening.{Happening}
 use Rattle.scl.specs.declared.Happening.TheVariants as happening
@@ -31,7 +32,7 @@ safe : {A : Type 0} → Safe ≡ Fresh → A
 safe e = let z : ◌≡◌ {A = ℕ} 0 1 = cc in absurd (omega arith)
 
 -- nothing fresh where no SPDU led to a row
-quiet-not : (d : Device) (r : Row) (old : Bool) {A : Type 0} → (quiet d r old).mark ≡ Fresh → A
+quiet-not : (d : Device) (r : Option Row) (old : Bool) {A : Type 0} → (quiet d r old).mark ≡ Fresh → A
 unfolding quiet
 quiet-not d r old {A} =
     cond_case (λ (m : Mark). m ≡ Fresh → A) (not d.released) (λ _ e. safe e) (λ _ e. goes_on e)
@@ -59,18 +60,18 @@ row_asks d q at CommErr =
     (λ _ _ e. no (cc))
     (λ _ e. no (cc))
 
-answered_fresh : (d : Device) (r : Row) (at : ℕ) (q : Request) → is_admitted d q ≡ true → (arrived d r at q (checked d q)).mark ≡ Fresh → Releases d q × ((arrived d r at q (checked d q)).arrival ≡ T22)
+answered_fresh : (d : Device) (r : Option Row) (at : ℕ) (q : Request) → is_admitted d q ≡ true → (arrived d r at q (checked d q)).mark ≡ Fresh → Releases d q × ((arrived d r at q (checked d q)).arrival ≡ Some T22)
 unfolding arrived checked
 answered_fresh d r at q t e =
     let CommErr = is_failure (check_of q.signature_holds q.port_holds (count_holds d q)) in
     let a : Asked d q CommErr (arrival_row d CommErr) = row_asks d q at CommErr (fresh_released (acted (admitted d q) (arrival_row d CommErr) at q.setSD CommErr).released e) in
     let h = all_hold q.signature_holds q.port_holds (count_holds d q) a.0.1.0 in
-    (record { admitted = t; not_in_26 = a.1; signature = h.0; port = h.1.0; count = h.1.1; cycles = a.0.1.1.0; not_set = a.0.1.1.1 }, a.0.0)
+    (record { admitted = t; not_in_26 = a.1; signature = h.0; port = h.1.0; count = h.1.1; cycles = a.0.1.1.0; not_set = a.0.1.1.1 }, ap (λ (x : Row). Some x) a.0.0)
 
-received_fresh : (d : Device) (r : Row) (at : ℕ) (q : Request) → (received d r at q).mark ≡ Fresh → Releases d q × ((received d r at q).arrival ≡ T22)
+received_fresh : (d : Device) (r : Option Row) (at : ℕ) (q : Request) → (received d r at q).mark ≡ Fresh → Releases d q × ((received d r at q).arrival ≡ Some T22)
 unfolding received
 received_fresh d r at q =
-    cond_case (λ (o : Outcome). o.mark ≡ Fresh → Releases d q × (o.arrival ≡ T22)) (is_admitted d q) (answered_fresh d r at q) (λ _. quiet-not d r (is_old d q))
+    cond_case (λ (o : Outcome). o.mark ≡ Fresh → Releases d q × (o.arrival ≡ Some T22)) (is_admitted d q) (answered_fresh d r at q) (λ _. quiet-not d r (is_old d q))
 
 -- Fresh octets are handed on in T22 alone, with SDcycles 0 and setSD 0, of an SPDU whose three checks hold;
 pub fresh_only : (d : Device) (w : ℕ) (h : Happening) → (step_of d w h).mark ≡ Fresh → FreshBy d w h
@@ -80,7 +81,7 @@ fresh_only d w (happening.Response at f) e = quiet-not (watched d w at) (watchdo
 fresh_only d w (happening.Clock at) e = quiet-not (watched d w at) (watchdog_row d w at) false e
 fresh_only d w (happening.Operator at setSD_C ChFAck_C) e = quiet-not (watched d w at) (watchdog_row d w at) false e
 
-arrived_fresh : (d : Device) (r : Row) (at : ℕ) (q : Request) → Releases d q → (arrived d r at q (checked d q)).mark ≡ Fresh
+arrived_fresh : (d : Device) (r : Option Row) (at : ℕ) (q : Request) → Releases d q → (arrived d r at q (checked d q)).mark ≡ Fresh
 unfolding arrived checked arrival_row acted admitted t22
 arrived_fresh d r at q c = simp (c.signature, c.port, c.count, c.not_in_26, c.cycles, c.not_set)
 

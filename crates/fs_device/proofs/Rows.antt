@@ -4,6 +4,7 @@ use mathlib.Core.Path.{◌≡◌, refl, sym, subst₂}
 use mathlib.Core.Bool.{Bool, true, false, cond, not, ◌&&◌, ◌||◌}
 use lib.Dec.{eqb}
 use borrow.Author.Tests.{eqb-true, not-false}
+use Rattle.std.specs.Prelude.{Option, Some, None}
 use Rattle.scl.specs.Time.{expired_of}
 use Rattle.scl.specs.Happenings.{is_failure, reading_of}
 use Rattle.scl.specs.declared.Happening.{Happening}
@@ -14,36 +15,36 @@ use Rattle.scl.proofs.Checks.{failed, passed}
 use Rattle.fs_device.specs.declared.Device.{Device}
 use Rattle.fs_device.specs.declared.Outcome.{Outcome}
 use Rattle.fs_device.specs.declared.Row.{Row}
-use Rattle.fs_device.specs.declared.Row.TheVariants.{Stay, T22, T25, T28, T29, T30, T31}
+use Rattle.fs_device.specs.declared.Row.TheVariants.{T22, T25, T28, T29, T30, T31}
 use Rattle.fs_device.specs.Table40.{timeout_row, watchdog_row, is_old, is_admitted, count_holds, checked, arrival_row, admitted, t22, t25, t28, t29, t30t31, acted}
-use Rattle.fs_device.specs.Calls.{watched, quiet, arrived, received, clocked, step_of}
+use Rattle.fs_device.specs.Calls.{watched, watched_by, quiet, arrived, received, clocked, step_of}
 use Rattle.fs_device.specs.History.{sound, times_out, errs_by, passes_by, is_error_row}
 
-module _ (d : Device) (w at : ℕ) (P : Row → Device → Type 0) where
-  pub watched_case : P Stay d → P T30 (t30t31 d at) → P T31 (t30t31 d at) → P (watchdog_row d w at) (watched d w at)
-  unfolding watched watchdog_row acted
+module _ (d : Device) (w at : ℕ) (P : Option Row → Device → Type 0) where
+  pub watched_case : P None d → P (Some T30) (t30t31 d at) → P (Some T31) (t30t31 d at) → P (watchdog_row d w at) (watched d w at)
+  unfolding watched watched_by watchdog_row acted
   watched_case stay from26 from24 =
       cond_case Done (d.runs && expired_of at d.DTimer w)
       (λ _. cond_case Done (eqb d.state 24) (λ _. from24) (λ _. cond_case Done (eqb d.state 26) (λ _. from26) (λ _. stay)))
       (λ _. stay)
     where
-      Done : Row → Type 0
-      Done r = P r (acted d r at false false)
+      Done : Option Row → Type 0
+      Done r = P r (watched_by d r at)
 
 -- where DTimer runs in 24 and 26 alone, they are the rows of a timeout
-module _ (d : Device) (w at : ℕ) (P : Bool → Row → Device → Type 0) where
-  pub timeout_case : (d.runs ≡ true → (eqb d.state 24 || eqb d.state 26) ≡ true) → P false Stay d
-      → P true T30 (t30t31 d at) → P true T31 (t30t31 d at) → P (times_out d w at) (watchdog_row d w at) (watched d w at)
-  unfolding watched watchdog_row acted
+module _ (d : Device) (w at : ℕ) (P : Bool → Option Row → Device → Type 0) where
+  pub timeout_case : (d.runs ≡ true → (eqb d.state 24 || eqb d.state 26) ≡ true) → P false None d
+      → P true (Some T30) (t30t31 d at) → P true (Some T31) (t30t31 d at) → P (times_out d w at) (watchdog_row d w at) (watched d w at)
+  unfolding watched watched_by watchdog_row acted
   timeout_case there stay from26 from24 =
       go (times_out d w at) (λ e. there (and_left d.runs (expired_of at d.DTimer w) e))
     where
-      from : (in24 in26 : Bool) → (in24 || in26) ≡ true → let r = cond in24 T31 (cond in26 T30 Stay) in P true r (acted d r at false false)
+      from : (in24 in26 : Bool) → (in24 || in26) ≡ true → let r = cond in24 (Some T31) (cond in26 (Some T30) None) in P true r (watched_by d r at)
       from true in26 e = from24
       from false true e = from26
       from false false e = no (sym e)
 
-      go : (over : Bool) → (over ≡ true → (eqb d.state 24 || eqb d.state 26) ≡ true) → let r = cond over (timeout_row d.state) Stay in P over r (acted d r at false false)
+      go : (over : Bool) → (over ≡ true → (eqb d.state 24 || eqb d.state 26) ≡ true) → let r = cond over (timeout_row d.state) None in P over r (watched_by d r at)
       go true in24or26 = from (eqb d.state 24) (eqb d.state 26) (in24or26 refl)
       go false in24or26 = stay
 
@@ -75,7 +76,7 @@ module _ (d : Device) (w : ℕ) (P : Bool → Bool → Outcome → Type 0) where
       j : Device
       j = watched d w at
 
-      r : Row
+      r : Option Row
       r = watchdog_row d w at
 
       go : (t : Bool) → P (t && not (sound j q)) (t && sound j q) (cond t (arrived j r at q (checked j q)) (quiet j r (is_old j q)))
@@ -115,7 +116,7 @@ unfolding quiet arrived
 error_rows d w h =
     let j = watched d w (reading_of h) in
     step_case d w (λ e _ o. e ≡ is_error_row o.arrival (is_failure o.check)) h (λ _. refl)
-    (λ at q. row_case j at q (λ r CommErr _. CommErr ≡ is_error_row r CommErr) (is_failure (checked j q)) (λ _. refl) (λ _. refl) (λ _ _. refl) (λ _. refl))
+    (λ at q. row_case j at q (λ r CommErr _. CommErr ≡ is_error_row (Some r) CommErr) (is_failure (checked j q)) (λ _. refl) (λ _. refl) (λ _ _. refl) (λ _. refl))
 
 -- and what a call says to have passed has none.
 pub passed_is : (d : Device) (w : ℕ) (h : Happening) → (step_of d w h).passed ≡ passes_by (watched d w (reading_of h)) h

@@ -6,6 +6,7 @@ use mathlib.Core.List.{List, [], ◌∷◌}
 use mathlib.Core.Logic.{◌⊎◌, inl, inr}
 use lib.Dec.{eqb}
 use borrow.Author.Tests.{eqb-false, lt-ltb, not-true}
+use Rattle.std.specs.Prelude.{Option, Some, None}
 use Rattle.scl.specs.Time.{elapsed_of}
 use Rattle.scl.specs.Happenings.{reading_of, is_failure}
 use Rattle.scl.specs.declared.Happening.{Happening}
@@ -16,9 +17,9 @@ use Rattle.scl.proofs.Cases.{cond_case, cond-or, no}
 use Rattle.fs_device.specs.declared.Device.{Device}
 use Rattle.fs_device.specs.declared.Outcome.{Outcome}
 use Rattle.fs_device.specs.declared.Row.{Row}
-use Rattle.fs_device.specs.declared.Row.TheVariants.{Stay, T30, T31}
-use Rattle.fs_device.specs.Table40.{watchdog_row, is_old, is_admitted, checked, arrival_row, t22, t25, t28, t29, t30t31, acted}
-use Rattle.fs_device.specs.Calls.{watched, quiet, arrived, received, clocked, step_of}
+use Rattle.fs_device.specs.declared.Row.TheVariants.{T30, T31}
+use Rattle.fs_device.specs.Table40.{watchdog_row, is_old, is_admitted, checked, t22, t25, t28, t29, t30t31, acted}
+use Rattle.fs_device.specs.Calls.{watched, watched_by, quiet, arrived, received, clocked, step_of}
 use Rattle.fs_device.specs.History.{device_after, times_out, is_timeout_row, waits, acts, arrives, watches, last_row, last_admitted_at}
 use Rattle.fs_device.proofs.Rows.{watched_case, timeout_case, row_case, step_case, call_case}
 use Rattle.fs_device.proofs.Faults.{waits_always}
@@ -38,16 +39,16 @@ watched_timed d w at =
     (record { reads = refl; runs_is = refl; goes = λ _. refl })
     (record { reads = refl; runs_is = refl; goes = λ _. refl })
 
-arrived_timed : (d : Device) (r : Row) (at : ℕ) (q : Request) → let o = arrived d r at q (checked d q) in Timed d at (acts o.arrival) o.device
+arrived_timed : (d : Device) (r : Option Row) (at : ℕ) (q : Request) → let o = arrived d r at q (checked d q) in Timed d at (acts o.arrival) o.device
 unfolding arrived t22 t25 t28 t29
 arrived_timed d r at q =
-    row_case d at q (λ x _ n. Timed d at (acts x) n) (is_failure (checked d q))
+    row_case d at q (λ x _ n. Timed d at (acts (Some x)) n) (is_failure (checked d q))
     (λ _. record { reads = refl; runs_is = refl; goes = λ _. refl })
     (λ _. record { reads = refl; runs_is = refl; goes = λ _. refl })
     (λ _ _. record { reads = refl; runs_is = refl; goes = λ _. refl })
     (λ _. record { reads = refl; runs_is = refl; goes = λ _. refl })
 
-received_timed : (d : Device) (r : Row) (at : ℕ) (q : Request) → let o = received d r at q in Timed d at (acts o.arrival) o.device
+received_timed : (d : Device) (r : Option Row) (at : ℕ) (q : Request) → let o = received d r at q in Timed d at (acts o.arrival) o.device
 unfolding received quiet
 received_timed d r at q =
     cond_case (λ (o : Outcome). Timed d at (acts o.arrival) o.device) (is_admitted d q) {x = arrived d r at q (checked d q)} {y = quiet d r (is_old d q)}
@@ -68,11 +69,11 @@ step_timed d w (happening.Request at q) =
       reads =
           k.reads ∙ ap (λ (t : ℕ). cond (acts o.arrival) at t) j.reads
           ∙ cond-or (acts o.arrival) (acts (watchdog_row d w at)) at d.DTimer
-          ∙ ap (λ (r : Row). cond (acts o.arrival || acts r) at d.DTimer) (sym (step_watchdog d w (happening.Request at q)));
+          ∙ ap (λ (r : Option Row). cond (acts o.arrival || acts r) at d.DTimer) (sym (step_watchdog d w (happening.Request at q)));
       runs_is =
           k.runs_is ∙ ap (λ (b : Bool). cond (acts o.arrival) true b) j.runs_is
           ∙ cond-or (acts o.arrival) (acts (watchdog_row d w at)) true d.runs
-          ∙ ap (λ (r : Row). cond (acts o.arrival || acts r) true d.runs) (sym (step_watchdog d w (happening.Request at q)));
+          ∙ ap (λ (r : Option Row). cond (acts o.arrival || acts r) true d.runs) (sym (step_watchdog d w (happening.Request at q)));
       goes = λ e. k.goes (j.goes e);
     }
 step_timed d w (happening.Response at f) = watched_timed d w at
@@ -115,10 +116,10 @@ record Ended (n : Device) : Type 0 where
   pub silent : n.released ≡ false
 
 late-watched : (d : Device) (w at : ℕ) → waits d ≡ true → eqb d.state 21 ≡ false → d.runs ≡ true → w < elapsed_of at d.DTimer → Ended (watched d w at)
-unfolding watched watchdog_row acted t30t31
+unfolding watched watched_by watchdog_row acted t30t31
 late-watched d w at rests not21 runs late = simp (runs, lt-ltb w (elapsed_of at d.DTimer) late) (go (eqb d.state 24) (eqb d.state 26) refl refl)
   where
-    go : (in24 in26 : Bool) → eqb d.state 24 ≡ in24 → eqb d.state 26 ≡ in26 → Ended (acted d (cond in24 T31 (cond in26 T30 Stay)) at false false)
+    go : (in24 in26 : Bool) → eqb d.state 24 ≡ in24 → eqb d.state 26 ≡ in26 → Ended (watched_by d (cond in24 (Some T31) (cond in26 (Some T30) None)) at)
     go true in26 e24 e26 = record { in26 = refl; cycles = refl; silent = refl }
     go false true e24 e26 = record { in26 = refl; cycles = refl; silent = refl }
     go false false e24 e26 = no (sym (simp (not21, e24, e26) at rests))
@@ -149,9 +150,6 @@ still-watched : (d : Device) (w at : ℕ) → (watched d w at).released ≡ true
 unfolding t30t31
 still-watched d w at = watched_case d w at (λ r n. n.released ≡ true → (acts r ≡ false) × (d.released ≡ true)) (λ e. (refl, e)) (λ e. no (sym e)) (λ e. no (sym e))
 
-arrival_acts : (d : Device) (at : ℕ) (q : Request) (CommErr : Bool) → acts (arrival_row d CommErr) ≡ true
-arrival_acts d at q CommErr = row_case d at q (λ r _ _. acts r ≡ true) CommErr (λ _. refl) (λ _. refl) (λ _ _. refl) (λ _. refl)
-
 abbrev Still : Device → Outcome → Type 0
 Still d o = (acts o.arrival ≡ true) ⊎ ((acts o.arrival ≡ false) × ((acts o.watchdog ≡ false) × (d.released ≡ true)))
 
@@ -161,7 +159,7 @@ still d w h =
     let j = watched d w (reading_of h) in
     step_case d w (λ _ _ o. o.device.released ≡ true → Still d o) h
     (λ _ e. inr (refl, still-watched d w (reading_of h) e))
-    (λ at q _. inl (arrival_acts j at q (is_failure (checked j q))))
+    (λ _ _ _. inl refl)
 
 module _ (at w : ℕ) where
   timed : law.Watched (device_after at w) (λ d. d.runs) (λ d. d.released) (λ d. d.DTimer) (arrives w) (watches w) at w

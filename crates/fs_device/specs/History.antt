@@ -1,5 +1,5 @@
 -- What the rows come to, over the definitions of this folder: the words in which the theorems of proofs/ are stated. Assumes nothing.
-use Rattle.std.specs.Prelude.{ℕ, ◌+◌, ◌≡◌, Bool, true, false, cond, not, ◌&&◌, ◌||◌, eqb, List, [], ◌∷◌}
+use Rattle.std.specs.Prelude.{ℕ, ◌+◌, ◌≡◌, Bool, true, false, cond, not, ◌&&◌, ◌||◌, eqb, List, [], ◌∷◌, Option, Some, None}
 use Rattle.scl.specs.Counts.{inverted}
 use Rattle.scl.specs.Time.{expired_of}
 use Rattle.scl.specs.Happenings.{reading_of}
@@ -11,7 +11,7 @@ use Rattle.scl.specs.declared.Request.{Request}
 use Rattle.fs_device.specs.declared.Device.{Device}
 use Rattle.fs_device.specs.declared.Outcome.{Outcome}
 use Rattle.fs_device.specs.declared.Row.{Row}
-use Rattle.fs_device.specs.declared.Row.TheVariants.{Stay, T22, T25, T28, T29, T30, T31}
+use Rattle.fs_device.specs.declared.Row.TheVariants.{T22, T25, T28, T29, T30, T31}
 use Rattle.fs_device.specs.Table40.{first_device, is_admitted, count_holds}
 use Rattle.fs_device.specs.Calls.{watched, step_of}
 
@@ -27,7 +27,7 @@ pub record Releases (d : Device) (q : Request) : Type 0 where
 
 -- the happening of a call that hands on fresh octets
 unfoldable pub FreshBy : Device → ℕ → Happening → Type 0
-FreshBy d w (happening.Request at q) = Releases (watched d w at) q × ((step_of d w (happening.Request at q)).arrival ≡ T22)
+FreshBy d w (happening.Request at q) = Releases (watched d w at) q × ((step_of d w (happening.Request at q)).arrival ≡ Some T22)
 FreshBy d w (happening.Response at response) = ⊥
 FreshBy d w (happening.Clock at) = ⊥
 FreshBy d w (happening.Operator at setSD_C ChFAck_C) = ⊥
@@ -60,24 +60,24 @@ passes_by d (happening.Clock at) = false
 passes_by d (happening.Operator at setSD_C ChFAck_C) = false
 
 -- the rows of an error, with CommErr of the SPDU
-abbrev pub is_error_row : Row → Bool → Bool
-is_error_row Stay CommErr = false
-is_error_row T22 CommErr = false
-is_error_row T25 CommErr = true
-is_error_row T28 CommErr = false
-is_error_row T29 CommErr = CommErr
-is_error_row T30 CommErr = false
-is_error_row T31 CommErr = false
+abbrev pub is_error_row : Option Row → Bool → Bool
+is_error_row None CommErr = false
+is_error_row (Some T22) CommErr = false
+is_error_row (Some T25) CommErr = true
+is_error_row (Some T28) CommErr = false
+is_error_row (Some T29) CommErr = CommErr
+is_error_row (Some T30) CommErr = false
+is_error_row (Some T31) CommErr = false
 
 -- the rows of a timeout
-abbrev pub is_timeout_row : Row → Bool
-is_timeout_row Stay = false
-is_timeout_row T22 = false
-is_timeout_row T25 = false
-is_timeout_row T28 = false
-is_timeout_row T29 = false
-is_timeout_row T30 = true
-is_timeout_row T31 = true
+abbrev pub is_timeout_row : Option Row → Bool
+is_timeout_row None = false
+is_timeout_row (Some T22) = false
+is_timeout_row (Some T25) = false
+is_timeout_row (Some T28) = false
+is_timeout_row (Some T29) = false
+is_timeout_row (Some T30) = true
+is_timeout_row (Some T31) = true
 
 -- how many SPDUs passed their checks since the block, or since the last error or timeout after it; of one call the watchdog is looked at first
 unfoldable pub passed_since : ℕ → ℕ → List Happening → ℕ
@@ -152,14 +152,9 @@ last_asked at w [] = false
 last_asked at w (h ∷ past) = asked_by (watched (device_after at w past) w (reading_of h)) h (last_asked at w past)
 
 -- a row acts, and restarts DTimer
-abbrev pub acts : Row → Bool
-acts Stay = false
-acts T22 = true
-acts T25 = true
-acts T28 = true
-acts T29 = true
-acts T30 = true
-acts T31 = true
+abbrev pub acts : Option Row → Bool
+acts None = false
+acts (Some row) = true
 
 -- in a call: the row of an SPDU that is admitted, and the watchdog's
 abbrev pub arrives : ℕ → Device → Happening → Bool

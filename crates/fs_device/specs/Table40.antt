@@ -4,7 +4,7 @@
 --
 -- How an action is written: "use PDout" is released, "use SDout" is not; "use PDin_D" is responded, since every row prepares a response (R23);
 -- "restart DTimer" is DTimer at the call's reading, running. A bit is 1 where its variable is true. MCount is that of the last SPDU admitted.
-use Rattle.std.specs.Prelude.{ℕ, ◌-◌, Bool, true, false, cond, not, ◌&&◌, ◌||◌, eqb}
+use Rattle.std.specs.Prelude.{ℕ, ◌-◌, Bool, true, false, cond, not, ◌&&◌, ◌||◌, eqb, Option, Some, None}
 use Rattle.scl.specs.Time.{expired_of}
 use Rattle.scl.specs.Counts.{count_after, inverted}
 use Rattle.scl.specs.Happenings.{check_of}
@@ -12,7 +12,7 @@ use Rattle.scl.specs.declared.Check.{Check}
 use Rattle.scl.specs.declared.Request.{Request}
 use Rattle.fs_device.specs.declared.Device.{Device}
 use Rattle.fs_device.specs.declared.Row.{Row}
-use Rattle.fs_device.specs.declared.Row.TheVariants.{Stay, T22, T25, T28, T29, T30, T31}
+use Rattle.fs_device.specs.declared.Row.TheVariants.{T22, T25, T28, T29, T30, T31}
 
 -- R19: after an accepted block with its reading, T20 done; no SPDU has been admitted, and DTimer does not run
 abbrev pub first_device : ℕ → Device
@@ -37,12 +37,12 @@ first_device at = record {
 -- Guards
 
 -- states 24 and 26, "After FSP_WatchdogTime expired": T31, T30
-abbrev pub timeout_row : ℕ → Row
-timeout_row state = cond (eqb state 24) T31 (cond (eqb state 26) T30 Stay)
+abbrev pub timeout_row : ℕ → Option Row
+timeout_row state = cond (eqb state 24) (Some T31) (cond (eqb state 26) (Some T30) None)
 
 -- DTimer does not run in 21 (R11)
-unfoldable pub watchdog_row : Device → ℕ → ℕ → Row
-watchdog_row d w at = cond (d.runs && expired_of at d.DTimer w) (timeout_row d.state) Stay
+unfoldable pub watchdog_row : Device → ℕ → ℕ → Option Row
+watchdog_row d w at = cond (d.runs && expired_of at d.DTimer w) (timeout_row d.state) None
 
 -- T24, T27, MCounter_incremented (R18): where MCount is the previous one the SPDU is old. An SPDU of zeros alone is ignored (R12)
 abbrev pub is_old : Device → Request → Bool
@@ -58,7 +58,7 @@ abbrev pub count_holds : Device → Request → Bool
 count_holds d q = eqb q.MCount 0 || eqb q.MCount (count_after d.MCount)
 
 -- do CRC_check, do PortNum_check, do Counter_check (R13)
-unfoldable pub checked : Device → Request → Check
+unfoldable pub checked : Device → Request → Option Check
 checked d q = check_of q.signature_holds q.port_holds (count_holds d q)
 
 -- state 22: "No CommErr" T22, "CommErr" T25. State 27: "No CommErr and SDcycles = 0" T28, "CommErr or SDcycles > 0" T29
@@ -210,7 +210,6 @@ t30t31 d at = record {
 
 -- the row's action, at the call's reading, with the setSD and the CommErr of the SPDU where there is one
 unfoldable pub acted : Device → Row → ℕ → Bool → Bool → Device
-acted d Stay at setSD CommErr = d
 acted d T22 at setSD CommErr = t22 d at setSD
 acted d T25 at setSD CommErr = t25 d at
 acted d T28 at setSD CommErr = t28 d at
@@ -219,11 +218,11 @@ acted d T30 at setSD CommErr = t30t31 d at
 acted d T31 at setSD CommErr = t30t31 d at
 
 -- the number of a row outside: 000's, and 0 for none
-abbrev pub row_number_of : Row → ℕ
-row_number_of Stay = 0
-row_number_of T22 = 22
-row_number_of T25 = 25
-row_number_of T28 = 28
-row_number_of T29 = 29
-row_number_of T30 = 30
-row_number_of T31 = 31
+abbrev pub row_number_of : Option Row → ℕ
+row_number_of None = 0
+row_number_of (Some T22) = 22
+row_number_of (Some T25) = 25
+row_number_of (Some T28) = 28
+row_number_of (Some T29) = 29
+row_number_of (Some T30) = 30
+row_number_of (Some T31) = 31

@@ -1,28 +1,19 @@
-// One happening at the FS-Device.
-ghost use Rattle.std.specs.Prelude.{◌≡◌, false};
-ghost use Rattle.fs_device.specs.Table40 as table40;
+// One happening at the FS-Device. Why it is no instance of a generic form with the FS-Master's: fs_master, src/calls.rt.
+ghost use Rattle.std.specs.Prelude.{◌≡◌};
 ghost use Rattle.fs_device.specs.Calls as calls;
 
-use crate::table40::{acted, admitted, arrival_row, checked, is_admitted, is_old, t30_t31};
 use crate::{Device, Outcome, Row};
 use scl::{Check, Happening, Request};
 
-// The device once its watchdog has been looked at, with the row that did it.
-#[derive(Clone, Copy)]
-struct AfterWatchdog {
-    row: Row,
-    device: Device,
-}
-
 #[tactic(auto, unfolding(crate::specs::Calls::quiet))]
-fn quiet(d: Device, watchdog: Row, old: bool) -> Outcome
+fn quiet(d: Device, watchdog: Option<Row>, old: bool) -> Outcome
     ensures { result ≡ calls.quiet d watchdog old }
 {
     Outcome {
         device: d,
         watchdog,
-        arrival: Row::Stay,
-        check: Check::None,
+        arrival: None,
+        check: None,
         old,
         passed: false,
         mark: scl::mark_of(false, d.released),
@@ -30,16 +21,16 @@ fn quiet(d: Device, watchdog: Row, old: bool) -> Outcome
 }
 
 #[tactic(auto, unfolding(crate::specs::Calls::arrived))]
-fn arrived(d: Device, watchdog: Row, at: u32, q: Request, failed: Check) -> Outcome
+fn arrived(d: Device, watchdog: Option<Row>, at: u32, q: Request, failed: Option<Check>) -> Outcome
     ensures { result ≡ calls.arrived d watchdog at q failed }
 {
     let CommErr = scl::is_failure(failed);
-    let row = arrival_row(d, CommErr);
-    let after = acted(admitted(d, q), row, at, q.setSD, CommErr);
+    let row = d.arrival_row(CommErr);
+    let after = d.admitted(q).acted(row, at, q.setSD, CommErr);
     Outcome {
         device: after,
         watchdog,
-        arrival: row,
+        arrival: Some(row),
         check: failed,
         old: false,
         passed: !CommErr,
@@ -48,69 +39,39 @@ fn arrived(d: Device, watchdog: Row, at: u32, q: Request, failed: Check) -> Outc
 }
 
 #[tactic(auto, unfolding(crate::specs::Calls::received))]
-fn received(d: Device, watchdog: Row, at: u32, q: Request) -> Outcome
+fn received(d: Device, watchdog: Option<Row>, at: u32, q: Request) -> Outcome
     ensures { result ≡ calls.received d watchdog at q }
 {
-    let old = is_old(d, q);
-    if is_admitted(d, q, old) {
-        arrived(d, watchdog, at, q, checked(d, q))
+    let old = d.is_old(q);
+    if d.is_admitted(q, old) {
+        arrived(d, watchdog, at, q, d.checked(q))
     } else {
         quiet(d, watchdog, old)
     }
 }
 
-// DTimeout: T31 from 24, T30 from 26.
-#[tactic(auto, unfolding(crate::specs::Table40::acted))]
-fn timed_out(d: Device, at: u32) -> AfterWatchdog
-    ensures { (result.row ≡ table40.timeout_row d.state) × (result.device ≡ table40.acted d (table40.timeout_row d.state) at false false) }
+// The device once its watchdog has been looked at, which led to this row.
+#[tactic(auto, unfolding(crate::specs::Calls::watched_by))]
+fn watched(d: Device, watchdog: Option<Row>, at: u32) -> Device
+    ensures { result ≡ calls.watched_by d watchdog at }
 {
-    if d.state == 24 {
-        return AfterWatchdog {
-            row: Row::T31,
-            device: t30_t31(d, at),
-        };
-    }
-    if d.state == 26 {
-        AfterWatchdog {
-            row: Row::T30,
-            device: t30_t31(d, at),
-        }
-    } else {
-        AfterWatchdog {
-            row: Row::Stay,
-            device: d,
-        }
-    }
-}
-
-#[tactic(auto, unfolding(crate::specs::Calls::watched, crate::specs::Table40::watchdog_row, crate::specs::Table40::acted))]
-fn watched(d: Device, w: u16, at: u32) -> AfterWatchdog
-    ensures { (result.row ≡ table40.watchdog_row d w at) × (result.device ≡ calls.watched d w at) }
-{
-    if d.runs & scl::expired(at, d.DTimer, w) {
-        timed_out(d, at)
-    } else {
-        AfterWatchdog {
-            row: Row::Stay,
-            device: d,
-        }
+    match watchdog {
+        Some(row) => d.acted(row, at, false, false),
+        None => d,
     }
 }
 
 // A happening at a device whose watchdog time is w.
-#[tactic(auto, unfolding(crate::specs::Calls::step_of, crate::specs::Calls::clocked))]
+#[tactic(auto, unfolding(crate::specs::Calls::step_of, crate::specs::Calls::clocked, crate::specs::Calls::watched))]
 pub fn step(d: Device, w: u16, happening: Happening) -> Outcome
     ensures { result ≡ calls.step_of d w happening }
 {
     let at = scl::reading(happening);
-    let after = watched(d, w, at);
-    let row = after.row;
-    let device = after.device;
+    let watchdog = d.watchdog_row(w, at);
+    let device = watched(d, watchdog, at);
     match happening {
-        Happening::Response(_, _) => quiet(device, row, false),
-        Happening::Request(_, q) => received(device, row, at, q),
-        Happening::Clock(_) => quiet(device, row, false),
-        Happening::Operator(_, _, _) => quiet(device, row, false),
+        Happening::Request(_, q) => received(device, watchdog, at, q),
+        _ => quiet(device, watchdog, false),
     }
 }
 
@@ -120,10 +81,5 @@ pub fn unchanged(d: Device, w: u16, happening: Happening) -> bool
     ensures { result ≡ calls.unchanged d w happening }
 {
     let over = d.runs & scl::expired(scl::reading(happening), d.DTimer, w);
-    match happening {
-        Happening::Response(_, _) => !over,
-        Happening::Request(_, _) => false,
-        Happening::Clock(_) => !over,
-        Happening::Operator(_, _, _) => !over,
-    }
+    !matches!(happening, Happening::Request(..)) & !over
 }

@@ -9,7 +9,8 @@ pub use table40::{first, row_number};
 
 // 000's variables under their names, between two calls. `state` is 000's number: 21, 24 or 26. MCount is that of the last SPDU admitted; DTimer
 // is the reading of its last restart, and `runs` says whether there was one. `released`: PDout is in use. `responded`: a response has been
-// prepared; before it the outgoing SPDU is zeros. Both counts of errors are u16, so that no octet of the struct is padding.
+// prepared; before it the outgoing SPDU is zeros. Both counts of errors are u16, so that no octet of the struct is padding. C reads the struct
+// (include/whakelouna.h): `runs` stands beside DTimer and is no Option, and `state` is no enum.
 #[repr(C)]
 #[derive(Clone, Copy)]
 pub struct Device {
@@ -30,26 +31,25 @@ pub struct Device {
     pub responded: bool,
 }
 
-// The rows that act; Stay for none.
-#[derive(Clone, Copy)]
+// The rows that act, with 000's numbers.
+#[derive(Clone, Copy, Debug, PartialEq, Eq)]
 pub enum Row {
-    Stay,
-    T22,
-    T25,
-    T28,
-    T29,
-    T30,
-    T31,
+    T22 = 22,
+    T25 = 25,
+    T28 = 28,
+    T29 = 29,
+    T30 = 30,
+    T31 = 31,
 }
 
 // What a call did at the FS-Device: the watchdog's row, then the row of the SPDU that came, the check that failed first, whether the SPDU was
-// old and whether it passed its checks, and what is handed on.
+// old and whether it passed its checks, and what is handed on. `old` and `passed` are no part of `arrival`: the theorem `passed_is` and C name them.
 #[derive(Clone, Copy)]
 pub struct Outcome {
     pub device: Device,
-    pub watchdog: Row,
-    pub arrival: Row,
-    pub check: scl::Check,
+    pub watchdog: Option<Row>,
+    pub arrival: Option<Row>,
+    pub check: Option<scl::Check>,
     pub old: bool,
     pub passed: bool,
     pub mark: scl::Mark,

@@ -6,6 +6,8 @@ use mathlib.Core.Bool.{Bool, true, false, cond, not, ◌&&◌, ◌||◌}
 use mathlib.Core.List.{List, [], ◌∷◌}
 use lib.Dec.{eqb}
 use borrow.Author.Tests.{not-true}
+use Rattle.std.specs.Prelude.{Option, Some}
+use Rattle.std.specs.Prelude as prelude
 use Rattle.scl.specs.Time.{expired_of}
 use Rattle.scl.specs.Happenings.{reading_of, is_failure}
 use Rattle.scl.specs.declared.Happening.{Happening}
@@ -15,9 +17,9 @@ use Rattle.scl.proofs.Cases.{cond_both, no, and_left, and_right}
 use Rattle.fs_master.specs.declared.Master.{Master}
 use Rattle.fs_master.specs.declared.Outcome.{Outcome}
 use Rattle.fs_master.specs.declared.Row.{Row}
-use Rattle.fs_master.specs.declared.Row.TheVariants.{Stay, T8, T14}
+use Rattle.fs_master.specs.declared.Row.TheVariants.{T8, T14}
 use Rattle.fs_master.specs.Table38.{timeout_row, watchdog_row, is_old, is_admitted, has_faults, checked, arrival_row, admitted, t4, t7, t8, t11, t12, t13, t14, acted, signalled}
-use Rattle.fs_master.specs.Calls.{watched, quiet, arrived, received, clocked, operated, step_of}
+use Rattle.fs_master.specs.Calls.{watched, watched_by, quiet, arrived, received, clocked, operated, step_of}
 use Rattle.fs_master.specs.History.{master_after, watched_in, Signals, signals, HasSignals, times_out, is_faulty, admitted_by, faulty_by, Fault, None, Open, Pressed, Asked, answered_by, fault, opens, is_requested, set_when_admitted, Held}
 use Rattle.fs_master.proofs.Rows.{timeout_case, row_case}
 use Rattle.fs_master.proofs.Counts.{watched_held, always_held}
@@ -66,7 +68,7 @@ row_fault m f at faults s h p =
     (λ _ z. rw z)
     (λ y z e. rw (z, simp y at p) (asked m.ChFAck_C m.ChFAck_C_e m.ChFAckReq_S e))
 
-received-fault : (m : Master) (r : Row) (at : ℕ) (f : Response) (s : Fault) → Held m → s ≡ stage m
+received-fault : (m : Master) (r : Option Row) (at : ℕ) (f : Response) (s : Fault) → Held m → s ≡ stage m
     → cond (is_admitted m f && is_faulty m f) Open (cond (is_admitted m f) (answered_by m.ChFAck_C s) s) ≡ stage (received m r at f).master
 unfolding received arrived quiet
 received-fault m r at f s h p = go (is_admitted m f)
@@ -131,10 +133,10 @@ abbrev SetBy : Master → Bool → Type 0
 SetBy m b = eqb m.state 7 ≡ false → m.setSD ≡ b
 
 watched-set : (m : Master) (w at : ℕ) (b : Bool) → SetBy m b → SetBy (watched m w at) b
-unfolding watched acted t8 t14
-watched-set m w at b s = timeout_case (λ (r : Row). SetBy (acted m r at false) b) m w at s (λ _ e. no e) (λ _ e. no e)
+unfolding watched watched_by acted t8 t14
+watched-set m w at b s = timeout_case (λ (r : Option Row). SetBy (watched_by m r at) b) m w at s (λ _ e. no e) (λ _ e. no e)
 
-received-set : (m : Master) (r : Row) (at : ℕ) (f : Response) (b : Bool) → SetBy m b → SetBy (received m r at f).master (cond (is_admitted m f) m.setSD_C b)
+received-set : (m : Master) (r : Option Row) (at : ℕ) (f : Response) (b : Bool) → SetBy m b → SetBy (received m r at f).master (cond (is_admitted m f) m.setSD_C b)
 unfolding received arrived quiet acted admitted t4 t7 t11 t12 t13
 received-set m r at f b s =
     cond_both (λ (o : Outcome) (x : Bool). SetBy o.master x) (is_admitted m f)
@@ -172,23 +174,23 @@ module _ (at w : ℕ) where
 late-opens : (state : ℕ) → (eqb state 2 || eqb state 5 || eqb state 7) ≡ true → eqb state 2 ≡ false → opens (timeout_row state) ≡ true
 late-opens state rests not2 = go (eqb state 5) (eqb state 7) refl refl
   where
-    go : (in5 in7 : Bool) → eqb state 5 ≡ in5 → eqb state 7 ≡ in7 → opens (cond in5 T8 (cond in7 T14 Stay)) ≡ true
+    go : (in5 in7 : Bool) → eqb state 5 ≡ in5 → eqb state 7 ≡ in7 → opens (cond in5 (Some T8) (cond in7 (Some T14) prelude.None)) ≡ true
     go true in7 e5 e7 = refl
     go false true e5 e7 = refl
     go false false e5 e7 = no (sym (simp (not2, e5, e7) at rests))
 
-row_opens : (m : Master) (faults : Bool) → opens (arrival_row m faults) ≡ faults
-row_opens m faults = row_case (λ (r : Row). opens r ≡ faults) m faults (λ _ e. sym e) (λ _ e. sym e) (λ _ e _. sym e) (λ _ e. sym e) (λ _ e _. sym e)
+row_opens : (m : Master) (faults : Bool) → opens (Some (arrival_row m faults)) ≡ faults
+row_opens m faults = row_case (λ (r : Row). opens (Some r) ≡ faults) m faults (λ _ e. sym e) (λ _ e. sym e) (λ _ e _. sym e) (λ _ e. sym e) (λ _ e _. sym e)
 
 opens-late : (m : Master) (w at : ℕ) → Held m → m.runs ≡ not (eqb m.state 2) → opens (watchdog_row m w at) ≡ times_out m w at
 unfolding watchdog_row
 opens-late m w at h outside = go (times_out m w at) refl
   where
-    go : (b : Bool) → times_out m w at ≡ b → opens (cond b (timeout_row m.state) Stay) ≡ b
+    go : (b : Bool) → times_out m w at ≡ b → opens (cond b (timeout_row m.state) prelude.None) ≡ b
     go true e = late-opens m.state h.rests (not-true (eqb m.state 2) (sym outside ∙ and_left m.runs (expired_of at m.MTimer w) e))
     go false e = refl
 
-received-opens : (m : Master) (r : Row) (at : ℕ) (f : Response) → opens (received m r at f).arrival ≡ (is_admitted m f && is_faulty m f)
+received-opens : (m : Master) (r : Option Row) (at : ℕ) (f : Response) → opens (received m r at f).arrival ≡ (is_admitted m f && is_faulty m f)
 unfolding received arrived quiet
 received-opens m r at f = go (is_admitted m f)
   where

@@ -7,6 +7,7 @@ use mathlib.Core.Logic.{◌⊎◌}
 use mathlib.Core.Bool.{Bool, true, false}
 use mathlib.Core.List.{List, [], ◌∷◌, map}
 use lib.ListN.{drop}
+use Rattle.std.specs.Prelude.{Option, Some, None}
 use Rattle.scl.specs.Time.{elapsed_of}
 use Rattle.scl.specs.Readings.{last_reading}
 use Rattle.scl.specs.Delayed.{delayed_happening, delayed_past, OnClock, none, more}
@@ -21,10 +22,11 @@ use Rattle.scl.specs.declared.Mark.TheVariants.{Fresh, GoesOn, Safe}
 use Rattle.scl.proofs.Cases.{no}
 use Rattle.fs_master.specs.declared.Master.{Master}
 use Rattle.fs_master.specs.declared.Row.{Row}
-use Rattle.fs_master.specs.declared.Row.TheVariants.{Stay, T4, T7, T8, T11, T12, T13, T14}
+use Rattle.fs_master.specs.declared.Row.TheVariants.{T4, T7, T8, T11, T12, T13, T14}
 use Rattle.fs_master.specs.Table38.{watchdog_row, is_old, is_admitted, checked, from8, arrival_row, admitted, start_from, t4, t7, t8, t11, t12, t13, t14, acted, signalled, row_number_of}
-use Rattle.fs_master.specs.Calls.{watched, quiet, arrived, received, clocked, operated, step_of}
-use Rattle.fs_master.specs.History.{FreshBy, Held, master_after, watched_in, passes_by, has_passed, delayed_master, delayed_outcome, signals_after, signals, admitted_by, faulty_by, Fault, None, Open, Pressed, Asked, answered_by, fault, last_row, last_admitted_at, previous_by, last_admitted, is_old_after, set_when_admitted}
+use Rattle.fs_master.specs.Calls.{watched, watched_by, quiet, arrived, received, clocked, operated, step_of}
+use Rattle.fs_master.specs.History.{FreshBy, Held, master_after, watched_in, passes_by, has_passed, delayed_master, delayed_outcome, signals_after, signals, admitted_by, faulty_by, Fault, Open, Pressed, Asked, answered_by, fault, last_row, last_admitted_at, previous_by, last_admitted, is_old_after, set_when_admitted}
+use Rattle.fs_master.specs.History as history
 use Rattle.fs_master.specs.Regular.{is_regular}
 use Rattle.fs_master.proofs.Rows as rows
 use Rattle.fs_master.proofs.Release as release
@@ -94,16 +96,16 @@ pub data Sent : Type 0 where
 -- what is sent then
 pub record Line : Type 0 where
   happens : Happening
-  watchdog : Row
-  arrival : Row
-  failed : Check
+  watchdog : Option Row
+  arrival : Option Row
+  failed : Option Check
   passed : Bool
   old : Bool
   mark : Mark
   stage : Fault
   sent : Sent
 
-abbrev line : Happening → Row → Row → Check → Bool → Bool → Mark → Fault → Sent → Line
+abbrev line : Happening → Option Row → Option Row → Option Check → Bool → Bool → Mark → Fault → Sent → Line
 line h watchdog arrival failed passed old mark stage sent = record {
   happens = h;
   watchdog = watchdog;
@@ -119,40 +121,40 @@ line h watchdog arrival failed passed old mark stage sent = record {
 -- after a block at 0 with W 100, the latest first
 abbrev table : List Line
 table =
-    line (happening.Response 700 (good 7)) T14 T13 check.None true false Safe Asked (sends 1 true true)
-    ∷ line (happening.Response 520 (late 1)) Stay T7 check.None true false Safe Open (sends 7 true false)
-    ∷ line (happening.Response 510 (good 2)) Stay T4 check.None true false Fresh None (sends 6 false false)
-    ∷ line (happening.Operator 500 false false) Stay Stay check.None false false Safe None (sends 5 true false)
-    ∷ line (happening.Response 490 (good 3)) Stay T11 check.None true false Safe None (sends 5 true false)
-    ∷ line (happening.Operator 480 true true) Stay Stay check.None false false Safe Asked (sends 4 true true)
-    ∷ line (happening.Response 470 (good 4)) Stay T13 check.None true false Safe Asked (sends 4 true true)
-    ∷ line (happening.Response 460 (late 5)) Stay T12 check.None true false Safe Open (sends 3 true false)
-    ∷ line (happening.Response 450 (erred 6)) Stay T12 check.None true false Safe Open (sends 2 true false)
-    ∷ line (happening.Response 440 (good 0)) Stay T13 check.None true false Safe Asked (sends 1 true true)
-    ∷ line (happening.Request 430 request) Stay Stay check.None false false Safe Open (sends 7 true false)
-    ∷ line (happening.Response 420 zeros) Stay Stay check.None false false Safe Open (sends 7 true false)
+    line (happening.Response 700 (good 7)) (Some T14) (Some T13) None true false Safe Asked (sends 1 true true)
+    ∷ line (happening.Response 520 (late 1)) None (Some T7) None true false Safe Open (sends 7 true false)
+    ∷ line (happening.Response 510 (good 2)) None (Some T4) None true false Fresh history.None (sends 6 false false)
+    ∷ line (happening.Operator 500 false false) None None None false false Safe history.None (sends 5 true false)
+    ∷ line (happening.Response 490 (good 3)) None (Some T11) None true false Safe history.None (sends 5 true false)
+    ∷ line (happening.Operator 480 true true) None None None false false Safe Asked (sends 4 true true)
+    ∷ line (happening.Response 470 (good 4)) None (Some T13) None true false Safe Asked (sends 4 true true)
+    ∷ line (happening.Response 460 (late 5)) None (Some T12) None true false Safe Open (sends 3 true false)
+    ∷ line (happening.Response 450 (erred 6)) None (Some T12) None true false Safe Open (sends 2 true false)
+    ∷ line (happening.Response 440 (good 0)) None (Some T13) None true false Safe Asked (sends 1 true true)
+    ∷ line (happening.Request 430 request) None None None false false Safe Open (sends 7 true false)
+    ∷ line (happening.Response 420 zeros) None None None false false Safe Open (sends 7 true false)
     -- old, as 1 was awaited of the one before, which carried 4
-    ∷ line (happening.Response 410 (good 1)) Stay Stay check.None false true Safe Open (sends 7 true false)
-    ∷ line (happening.Response 400 (good 4)) Stay Stay check.None false true Safe Open (sends 7 true false)
-    ∷ line (happening.Response 390 (good 4)) Stay T12 check.Count false false Safe Open (sends 7 true false)
-    ∷ line (happening.Response 380 (misaddressed 2)) Stay T12 check.Port false false Safe Open (sends 6 true false)
-    ∷ line (happening.Operator 370 true false) Stay Stay check.None false false Safe Pressed (sends 5 true true)
-    ∷ line (happening.Response 360 (good 3)) Stay T13 check.None true false Safe Pressed (sends 5 true true)
-    ∷ line (happening.Response 350 (damaged 4)) Stay T7 check.Signature false false Safe Open (sends 4 true false)
-    ∷ line (happening.Response 340 (set 5)) Stay T4 check.None true false Safe None (sends 3 false false)
-    ∷ line (happening.Response 330 (good 6)) Stay T11 check.None true false Fresh None (sends 2 false false)
-    ∷ line (happening.Operator 320 false true) Stay Stay check.None false false Safe Asked (sends 1 true true)
+    ∷ line (happening.Response 410 (good 1)) None None None false true Safe Open (sends 7 true false)
+    ∷ line (happening.Response 400 (good 4)) None None None false true Safe Open (sends 7 true false)
+    ∷ line (happening.Response 390 (good 4)) None (Some T12) (Some check.Count) false false Safe Open (sends 7 true false)
+    ∷ line (happening.Response 380 (misaddressed 2)) None (Some T12) (Some check.Port) false false Safe Open (sends 6 true false)
+    ∷ line (happening.Operator 370 true false) None None None false false Safe Pressed (sends 5 true true)
+    ∷ line (happening.Response 360 (good 3)) None (Some T13) None true false Safe Pressed (sends 5 true true)
+    ∷ line (happening.Response 350 (damaged 4)) None (Some T7) (Some check.Signature) false false Safe Open (sends 4 true false)
+    ∷ line (happening.Response 340 (set 5)) None (Some T4) None true false Safe history.None (sends 3 false false)
+    ∷ line (happening.Response 330 (good 6)) None (Some T11) None true false Fresh history.None (sends 2 false false)
+    ∷ line (happening.Operator 320 false true) None None None false false Safe Asked (sends 1 true true)
     -- admitted though old, as MCount is 0 in state 7 (R14)
-    ∷ line (happening.Response 310 (good 7)) Stay T13 check.None true true Safe Asked (sends 1 true true)
-    ∷ line (happening.Clock 300) T14 Stay check.None false false Safe Open (sends 0 true false)
+    ∷ line (happening.Response 310 (good 7)) None (Some T13) None true true Safe Asked (sends 1 true true)
+    ∷ line (happening.Clock 300) (Some T14) None None false false Safe Open (sends 0 true false)
     -- 101 ms after the response, whatever the operator did meanwhile
-    ∷ line (happening.Clock 111) T8 Stay check.None false false Safe Open (sends 0 true false)
-    ∷ line (happening.Operator 40 false false) Stay Stay check.None false false GoesOn None (sends 1 false false)
-    ∷ line (happening.Response 30 (good 7)) Stay Stay check.None false true GoesOn None (sends 1 false false)
-    ∷ line (happening.Clock 20) Stay Stay check.None false false GoesOn None (sends 1 false false)
-    ∷ line (happening.Response 10 (good 7)) Stay T4 check.None true false Fresh None (sends 1 false false)
+    ∷ line (happening.Clock 111) (Some T8) None None false false Safe Open (sends 0 true false)
+    ∷ line (happening.Operator 40 false false) None None None false false GoesOn history.None (sends 1 false false)
+    ∷ line (happening.Response 30 (good 7)) None None None false true GoesOn history.None (sends 1 false false)
+    ∷ line (happening.Clock 20) None None None false false GoesOn history.None (sends 1 false false)
+    ∷ line (happening.Response 10 (good 7)) None (Some T4) None true false Fresh history.None (sends 1 false false)
     -- not the one that is expected in state 2
-    ∷ line (happening.Response 5 (good 3)) Stay Stay check.None false false Safe None (sends 0 true false)
+    ∷ line (happening.Response 5 (good 3)) None None None false false Safe history.None (sends 0 true false)
     ∷ []
 
 abbrev course : List Happening
@@ -166,7 +168,7 @@ seen (h ∷ past) =
     line h o.watchdog o.arrival o.check o.passed o.old o.mark (fault 0 100 (h ∷ past)) (sends m.MCount m.setSD m.ChFAckReq) ∷ seen past
 
 pub course_arises : seen course ≡ table
-unfolding watched_in seen master_after fault admitted_by faulty_by answered_by signals signals_after step_of clocked operated quiet received arrived watched acted t4 t7 t8 t11 t12 t13 t14 admitted is_old is_admitted checked from8 arrival_row watchdog_row signalled start_from elapsed_of
+unfolding watched_in seen master_after fault admitted_by faulty_by answered_by signals signals_after step_of clocked operated quiet received arrived watched watched_by acted t4 t7 t8 t11 t12 t13 t14 admitted is_old is_admitted checked from8 arrival_row watchdog_row signalled start_from elapsed_of
 course_arises = refl
 
 -- the first n calls, and the FS-Master after them
@@ -207,12 +209,12 @@ pub record Met : Type 0 where
   another_count : (step_of (after 9) 100 releasing_again).master.MCount ≡ (watched (after 9) 100 330).MCount → ⊥
   count_below : (step_of (after 9) 100 releasing_again).master.MCount ≤ 7
   held : Held (step_of (after 0) 100 releasing).master
-  in_time : watchdog_row (after 2) 100 20 ≡ Stay
+  in_time : watchdog_row (after 2) 100 20 ≡ None
   is_regular_lem : is_regular (after 10) 100 340 (set 5) ≡ true
-  regular_step : step_of (after 10) 100 (happening.Response 340 (set 5)) ≡ record { master = t4 (admitted (after 10) (set 5)) 340 true; watchdog = Stay; arrival = T4; check = check.None; old = false; passed = true; sent = 330; mark = Safe }
+  regular_step : step_of (after 10) 100 (happening.Response 340 (set 5)) ≡ record { master = t4 (admitted (after 10) (set 5)) 340 true; watchdog = None; arrival = Some T4; check = None; old = false; passed = true; sent = 330; mark = Safe }
   delayed_step : step_of (delayed_master 5 (after 2)) 100 (delayed_happening 5 (happening.Clock 20)) ≡ delayed_outcome 5 (step_of (after 2) 100 (happening.Clock 20))
   delayed_after : master_after 4294967281 100 (delayed_past 4294967281 (first 3)) ≡ delayed_master 4294967281 (after 3)
-  acknowledged : fault 0 100 (first 10) ≡ None
+  acknowledged : fault 0 100 (first 10) ≡ history.None
   passed_first : has_passed 0 100 (first 2) ≡ true
   late_silent : (after 6).released ≡ false
   released_in_time : elapsed_of 20 (last_admitted_at 0 100 (first 3)) ≤ 100
@@ -225,17 +227,17 @@ pub record Words : Type 0 where
   not_yet : has_passed 0 100 (first 1) ≡ false
   admitted_at : last_admitted_at 0 100 (first 5) ≡ 10
   row_at : last_row 0 100 (first 6) ≡ 111
-  numbers : map row_number_of (Stay ∷ T4 ∷ T7 ∷ T8 ∷ T11 ∷ T12 ∷ T13 ∷ T14 ∷ []) ≡ 0 ∷ 4 ∷ 7 ∷ 8 ∷ 11 ∷ 12 ∷ 13 ∷ 14 ∷ []
+  numbers : map row_number_of (None ∷ Some T4 ∷ Some T7 ∷ Some T8 ∷ Some T11 ∷ Some T12 ∷ Some T13 ∷ Some T14 ∷ []) ≡ 0 ∷ 4 ∷ 7 ∷ 8 ∷ 11 ∷ 12 ∷ 13 ∷ 14 ∷ []
 
 pub words : Words
-unfolding has_passed passes_by last_reading watched_in master_after step_of clocked operated quiet received arrived watched acted t4 t8 admitted is_old is_admitted checked from8 arrival_row watchdog_row signalled start_from elapsed_of
+unfolding has_passed passes_by last_reading watched_in master_after step_of clocked operated quiet received arrived watched watched_by acted t4 t8 admitted is_old is_admitted checked from8 arrival_row watchdog_row signalled start_from elapsed_of
 words = record { not_yet = refl; admitted_at = refl; row_at = refl; numbers = refl }
 
-opened : Open ≡ None → true ≡ false
+opened : Open ≡ history.None → true ≡ false
 opened e = let z : ◌≡◌ {A = ℕ} 0 1 = cc in absurd (omega arith)
 
 pub premises_met : Met
-unfolding is_regular set_when_admitted last_admitted previous_by is_old_after watched_in master_after fault admitted_by faulty_by answered_by signals signals_after step_of clocked operated quiet received arrived watched acted t4 t7 t8 t11 t12 t13 t14 admitted is_old is_admitted checked from8 arrival_row watchdog_row signalled start_from elapsed_of
+unfolding is_regular set_when_admitted last_admitted previous_by is_old_after watched_in master_after fault admitted_by faulty_by answered_by signals signals_after step_of clocked operated quiet received arrived watched watched_by acted t4 t7 t8 t11 t12 t13 t14 admitted is_old is_admitted checked from8 arrival_row watchdog_row signalled start_from elapsed_of
 premises_met = record {
   fresh_only = release.fresh_only (after 1) 100 releasing refl;
   fresh_if =

@@ -2,6 +2,7 @@
 use Prim.Native.Nat.{ℕ, ◌+◌, ◌%◌, ◌≤◌}
 use native.Mathlib.Omega.{arith}
 use borrow.Author.Tests.{eqb-true, eqb-false, ne_eqb}
+use Rattle.std.specs.Prelude.{Option, Some, None}
 use Rattle.scl.specs.Counts.{count_after}
 use Rattle.scl.specs.Happenings.{is_failure}
 use Rattle.scl.proofs.Cases.{cond_case, no, or_second}
@@ -15,15 +16,15 @@ use Rattle.scl.specs.declared.Response.{Response}
 use Rattle.fs_master.specs.declared.Master.{Master}
 use Rattle.fs_master.specs.declared.Outcome.{Outcome}
 use Rattle.fs_master.specs.declared.Row.{Row}
-use Rattle.fs_master.specs.declared.Row.TheVariants.{Stay, T4, T7, T8, T11, T12, T13, T14}
-use Rattle.fs_master.specs.Calls.{watched, quiet, arrived, received, clocked, operated, step_of}
+use Rattle.fs_master.specs.declared.Row.TheVariants.{T4, T7, T8, T11, T12, T13, T14}
+use Rattle.fs_master.specs.Calls.{watched, watched_by, quiet, arrived, received, clocked, operated, step_of}
 use Rattle.fs_master.proofs.Rows.{timeout_case, row_case}
+use Rattle.fs_master.proofs.Samples.{received_watchdog}
 use Rattle.fs_master.specs.Table38.{watchdog_row, is_old, is_admitted, has_faults, checked, arrival_row, admitted, t4, t7, t8, t11, t12, t13, t14, acted, signalled, first_master}
 use Rattle.fs_master.specs.History.{count_after_row, Held, master_after}
 
-acted_count : (m : Master) (r : Row) (at : ℕ) (SDset : Bool) → (acted m r at SDset).MCount ≡ count_after_row r m.MCount
+acted_count : (m : Master) (r : Row) (at : ℕ) (SDset : Bool) → (acted m r at SDset).MCount ≡ count_after_row (Some r) m.MCount
 unfolding acted count_after_row t4 t7 t8 t11 t12 t13 t14
-acted_count m Stay at SDset = refl
 acted_count m T4 at SDset = refl
 acted_count m T7 at SDset = refl
 acted_count m T8 at SDset = refl
@@ -33,23 +34,23 @@ acted_count m T13 at SDset = refl
 acted_count m T14 at SDset = refl
 
 watched_count : (m : Master) (w at : ℕ) → (watched m w at).MCount ≡ count_after_row (watchdog_row m w at) m.MCount
-unfolding watched
-watched_count m w at = acted_count m (watchdog_row m w at) at false
+unfolding watched watched_by count_after_row
+watched_count m w at = go (watchdog_row m w at)
+  where
+    go : (r : Option Row) → (watched_by m r at).MCount ≡ count_after_row r m.MCount
+    go None = refl
+    go (Some r) = acted_count m r at false
 
-arrived_count : (m : Master) (f : Response) (r : Row) (at : ℕ) → (acted (admitted m f) r at f.SDset).MCount ≡ count_after_row r m.MCount
+arrived_count : (m : Master) (f : Response) (r : Row) (at : ℕ) → (acted (admitted m f) r at f.SDset).MCount ≡ count_after_row (Some r) m.MCount
 unfolding admitted
 arrived_count m f r at = acted_count (admitted m f) r at f.SDset
 
-received_count : (m : Master) (r : Row) (at : ℕ) (f : Response) → (received m r at f).master.MCount ≡ count_after_row (received m r at f).arrival m.MCount
+received_count : (m : Master) (r : Option Row) (at : ℕ) (f : Response) → (received m r at f).master.MCount ≡ count_after_row (received m r at f).arrival m.MCount
 unfolding received arrived quiet count_after_row
 received_count m r at f =
     cond_case (λ (o : Outcome). o.master.MCount ≡ count_after_row o.arrival m.MCount) (is_admitted m f) {x = arrived m r at f (checked m f)} {y = quiet m r (is_old m f)}
     (λ _. arrived_count m f (arrival_row m (has_faults (is_failure (checked m f)) f)) at)
     (λ _. refl)
-
-received_watchdog : (m : Master) (r : Row) (at : ℕ) (f : Response) → (received m r at f).watchdog ≡ r
-unfolding received arrived quiet
-received_watchdog m r at f = cond_case (λ (o : Outcome). o.watchdog ≡ r) (is_admitted m f) (λ _. refl) (λ _. refl)
 
 -- MCount follows Table 33: by the watchdog's row, then by the arrival's.
 pub count_by_rows : (m : Master) (w : ℕ) (h : Happening) → (step_of m w h).master.MCount ≡ count_after_row (step_of m w h).arrival (count_after_row (step_of m w h).watchdog m.MCount)
@@ -67,16 +68,16 @@ below n =
     (λ _. omega arith)
     (λ e. omega (arith, eqb-false (n % 8 + 1) 8 e))
 
-by_below : (r : Row) (n : ℕ) → n ≤ 7 → count_after_row r n ≤ 7
+by_below : (r : Option Row) (n : ℕ) → n ≤ 7 → count_after_row r n ≤ 7
 unfolding count_after_row
-by_below Stay n b = b
-by_below T4 n b = below n
-by_below T7 n b = below n
-by_below T8 n b = omega arith
-by_below T11 n b = below n
-by_below T12 n b = below n
-by_below T13 n b = below n
-by_below T14 n b = omega arith
+by_below None n b = b
+by_below (Some T4) n b = below n
+by_below (Some T7) n b = below n
+by_below (Some T8) n b = omega arith
+by_below (Some T11) n b = below n
+by_below (Some T12) n b = below n
+by_below (Some T13) n b = below n
+by_below (Some T14) n b = omega arith
 
 -- So it is 0 to 7.
 pub count_below : (m : Master) (w : ℕ) (h : Happening) → m.MCount ≤ 7 → (step_of m w h).master.MCount ≤ 7
@@ -92,12 +93,12 @@ another n =
 pub never_0 : (n : ℕ) → eqb (count_after n) 0 ≡ false
 never_0 n = ne_eqb (count_after n) 0 (cond_case (λ (k : ℕ). k ≡ 0 → ⊥) (eqb (n % 8 + 1) 8) (λ _ k. omega (arith, k)) (λ _ k. omega (arith, k)))
 
-arrival_count : (m : Master) (faults : Bool) (n : ℕ) → count_after_row (arrival_row m faults) n ≡ count_after n
+arrival_count : (m : Master) (faults : Bool) (n : ℕ) → count_after_row (Some (arrival_row m faults)) n ≡ count_after n
 unfolding count_after_row
 arrival_count m faults n =
-    row_case (λ (r : Row). count_after_row r n ≡ count_after n) m faults (λ _ _. refl) (λ _ _. refl) (λ _ _ _. refl) (λ _ _. refl) (λ _ _ _. refl)
+    row_case (λ (r : Row). count_after_row (Some r) n ≡ count_after n) m faults (λ _ _. refl) (λ _ _. refl) (λ _ _ _. refl) (λ _ _. refl) (λ _ _ _. refl)
 
-received_another : (m : Master) (r : Row) (at : ℕ) (f : Response) → is_admitted m f ≡ true → (received m r at f).master.MCount ≡ count_after m.MCount
+received_another : (m : Master) (r : Option Row) (at : ℕ) (f : Response) → is_admitted m f ≡ true → (received m r at f).master.MCount ≡ count_after m.MCount
 unfolding received arrived
 received_another m r at f t =
     rw t (arrived_count m f (arrival_row m (has_faults (is_failure (checked m f)) f)) at ∙ arrival_count m (has_faults (is_failure (checked m f)) f) m.MCount)
@@ -111,9 +112,9 @@ another_count m w at f t e =
 -- R17b's invariants
 
 pub watched_held : (m : Master) (w at : ℕ) → Held m → Held (watched m w at)
-unfolding watched acted t8 t14
+unfolding watched watched_by acted t8 t14
 watched_held m w at h =
-    timeout_case (λ (r : Row). Held (acted m r at false)) m w at h
+    timeout_case (λ (r : Option Row). Held (watched_by m r at)) m w at h
     (λ _. record { rests = refl; shown = refl; same = h.same; no_request = λ e. no e; no_edge = λ e. no e; safe = λ _. refl; requested = h.requested; sent = λ _. refl; set = λ _. refl })
     (λ _. record { rests = refl; shown = refl; same = refl; no_request = λ e. no e; no_edge = λ e. no e; safe = λ _. refl; requested = λ e. no (sym e); sent = λ _. refl; set = λ _. refl })
 
@@ -127,7 +128,7 @@ row_held m f at faults h =
     (λ _ _. record { rests = refl; shown = refl; same = refl; no_request = λ e. no e; no_edge = λ e. no e; safe = λ _. refl; requested = λ e. no (sym e); sent = λ _. refl; set = λ _. refl })
     (λ _ _ _. record { rests = refl; shown = refl; same = refl; no_request = λ e. no e; no_edge = λ e. no e; safe = λ _. refl; requested = λ _. refl; sent = λ _. refl; set = λ _. refl })
 
-received_held : (m : Master) (r : Row) (at : ℕ) (f : Response) → Held m → Held (received m r at f).master
+received_held : (m : Master) (r : Option Row) (at : ℕ) (f : Response) → Held m → Held (received m r at f).master
 unfolding received arrived quiet
 received_held m r at f h =
     cond_case (λ (o : Outcome). Held o.master) (is_admitted m f) (λ _. row_held m f at (has_faults (is_failure (checked m f)) f) h) (λ _. h)

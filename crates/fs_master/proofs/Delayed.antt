@@ -1,5 +1,6 @@
 -- The wrap of the clock changes nothing at the FS-Master. Assumes nothing.
 use Prim.Native.Nat.{ℕ, ◌<◌, ◌^◌}
+use Rattle.std.specs.Prelude.{Option, Some, None}
 use Rattle.scl.specs.Happenings.{is_failure, reading_of}
 use Rattle.scl.specs.declared.Check.{Check}
 use Rattle.scl.proofs.Cases.{cond_case, cond_both}
@@ -15,8 +16,8 @@ use Rattle.scl.specs.declared.Response.{Response}
 use Rattle.fs_master.specs.declared.Master.{Master}
 use Rattle.fs_master.specs.declared.Outcome.{Outcome}
 use Rattle.fs_master.specs.declared.Row.{Row}
-use Rattle.fs_master.specs.declared.Row.TheVariants.{Stay, T4, T7, T8, T11, T12, T13, T14}
-use Rattle.fs_master.specs.Calls.{watched, quiet, arrived, received, clocked, operated, step_of}
+use Rattle.fs_master.specs.declared.Row.TheVariants.{T4, T7, T8, T11, T12, T13, T14}
+use Rattle.fs_master.specs.Calls.{watched, watched_by, quiet, arrived, received, clocked, operated, step_of}
 use Rattle.fs_master.specs.Table38.{watchdog_row, is_old, is_admitted, has_faults, checked, from8, arrival_row, admitted, start_from, t4, t7, t8, t11, t12, t13, t14, acted, signalled, first_master}
 use Rattle.scl.specs.Delayed.{delayed, delayed_happening, delayed_past, OnClock, none, more}
 use Rattle.fs_master.specs.History.{master_after, arrives, watches, delayed_master, delayed_outcome}
@@ -30,7 +31,6 @@ module _ (k : ℕ) where
 
   delayed-act : (m : Master) (r : Row) (at : ℕ) (SDset : Bool) → acted (delayed_master k m) r (delayed k at) SDset ≡ delayed_master k (acted m r at SDset)
   unfolding delayed_master acted t4 t7 t8 t11 t12 t13 t14
-  delayed-act m Stay at SDset = refl
   delayed-act m T4 at SDset = simp (delayed-start m)
   delayed-act m T7 at SDset = simp (delayed-start m)
   delayed-act m T8 at SDset = simp (delayed-start m)
@@ -39,19 +39,24 @@ module _ (k : ℕ) where
   delayed-act m T13 at SDset = simp (delayed-start m)
   delayed-act m T14 at SDset = simp (delayed-start m)
 
+  delayed-by : (m : Master) (r : Option Row) (at : ℕ) → watched_by (delayed_master k m) r (delayed k at) ≡ delayed_master k (watched_by m r at)
+  unfolding watched_by
+  delayed-by m None at = refl
+  delayed-by m (Some r) at = delayed-act m r at false
+
   delayed_watchdog : (m : Master) (w at : ℕ) → m.MTimer < 2 ^ 32 → at < 2 ^ 32 → watchdog_row (delayed_master k m) w (delayed k at) ≡ watchdog_row m w at
   unfolding delayed_master watchdog_row
   delayed_watchdog m w at fits reading-fits = simp (shifted at m.MTimer k reading-fits fits)
 
   delayed-watched : (m : Master) (w at : ℕ) → m.MTimer < 2 ^ 32 → at < 2 ^ 32 → watched (delayed_master k m) w (delayed k at) ≡ delayed_master k (watched m w at)
   unfolding watched
-  delayed-watched m w at fits reading-fits = rw (delayed_watchdog m w at fits reading-fits) (delayed-act m (watchdog_row m w at) at false)
+  delayed-watched m w at fits reading-fits = rw (delayed_watchdog m w at fits reading-fits) (delayed-by m (watchdog_row m w at) at)
 
   delayed-admitted : (m : Master) (f : Response) → admitted (delayed_master k m) f ≡ delayed_master k (admitted m f)
   unfolding admitted delayed_master
   delayed-admitted m f = refl
 
-  delayed-quiet : (m : Master) (r : Row) (old : Bool) → quiet (delayed_master k m) r old ≡ delayed_outcome k (quiet m r old)
+  delayed-quiet : (m : Master) (r : Option Row) (old : Bool) → quiet (delayed_master k m) r old ≡ delayed_outcome k (quiet m r old)
   unfolding quiet delayed_master delayed_outcome
   delayed-quiet m r old = refl
 
@@ -71,7 +76,7 @@ module _ (k : ℕ) where
   unfolding is_old delayed_master
   delayed-old m f = refl
 
-  delayed-arrived : (m : Master) (r : Row) (at : ℕ) (f : Response) (failed : Check) → arrived (delayed_master k m) r (delayed k at) f failed ≡ delayed_outcome k (arrived m r at f failed)
+  delayed-arrived : (m : Master) (r : Option Row) (at : ℕ) (f : Response) (failed : Option Check) → arrived (delayed_master k m) r (delayed k at) f failed ≡ delayed_outcome k (arrived m r at f failed)
   unfolding arrived delayed_outcome
   delayed-arrived m r at f failed =
       simp (delayed_arrival m (has_faults (is_failure failed) f), delayed-admitted m f, delayed-act (admitted m f) (arrival_row m (has_faults (is_failure failed) f)) at f.SDset, delayed-old m f, delayed_released, delayed-sent)
@@ -84,7 +89,7 @@ module _ (k : ℕ) where
   unfolding checked delayed_master
   delayed_check m f = refl
 
-  delayed-received : (m : Master) (r : Row) (at : ℕ) (f : Response) → received (delayed_master k m) r (delayed k at) f ≡ delayed_outcome k (received m r at f)
+  delayed-received : (m : Master) (r : Option Row) (at : ℕ) (f : Response) → received (delayed_master k m) r (delayed k at) f ≡ delayed_outcome k (received m r at f)
   unfolding received
   delayed-received m r at f =
       rw (delayed_admitting m f, delayed_check m f, delayed-old m f)

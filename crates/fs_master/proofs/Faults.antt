@@ -2,6 +2,7 @@
 use Prim.Native.Nat.{ℕ}
 use mathlib.Core.Path.{◌≡◌, refl, sym, ◌∙◌}
 use mathlib.Core.Bool.{Bool, true, false}
+use Rattle.std.specs.Prelude.{Option}
 use Rattle.scl.specs.Happenings.{is_failure}
 use Rattle.scl.specs.declared.Happening.TheVariants as happening
 use Rattle.scl.specs.declared.Mark.TheVariants.{Safe}
@@ -30,7 +31,7 @@ unfolding acted t7 t12
 fault-safe m f at =
     row_case (λ (r : Row). (acted (admitted m f) r at f.SDset).released ≡ false) m true (λ _ e. no e) (λ _ _. refl) (λ _ e _. no e) (λ _ _. refl) (λ _ e _. no e)
 
-received-safe : (m : Master) (r : Row) (at : ℕ) (f : Response) → is_admitted m f ≡ true → is_faulty m f ≡ true → Safely (received m r at f)
+received-safe : (m : Master) (r : Option Row) (at : ℕ) (f : Response) → is_admitted m f ≡ true → is_faulty m f ≡ true → Safely (received m r at f)
 unfolding received arrived
 received-safe m r at f t s = rw (t, sym (faulty_is m f) ∙ s) (simp (fault-safe m f at), fault-safe m f at)
 

@@ -6,6 +6,7 @@ use mathlib.Core.Bool.{Bool, true, false, cond, not, ◌&&◌, ◌||◌}
 use mathlib.Core.List.{List, [], ◌∷◌}
 use lib.Dec.{eqb}
 use borrow.Author.Tests.{ne_eqb}
+use Rattle.std.specs.Prelude.{Option, Some}
 use Rattle.scl.specs.Counts.{count_after}
 use Rattle.scl.specs.Happenings.{reading_of, is_failure}
 use Rattle.scl.specs.Readings.{last_reading}
@@ -18,7 +19,7 @@ use Rattle.fs_master.specs.declared.Master.{Master}
 use Rattle.fs_master.specs.declared.Outcome.{Outcome}
 use Rattle.fs_master.specs.declared.Row.{Row}
 use Rattle.fs_master.specs.Table38.{watchdog_row, is_old, is_expected, is_admitted, has_faults, checked, arrival_row, admitted, start_from, t4, t7, t8, t11, t12, t13, t14, acted, signalled}
-use Rattle.fs_master.specs.Calls.{watched, quiet, arrived, received, clocked, operated, step_of}
+use Rattle.fs_master.specs.Calls.{watched, watched_by, quiet, arrived, received, clocked, operated, step_of}
 use Rattle.fs_master.specs.History.{Releases, FreshBy, master_after, watched_in, Held, acts, arrives, last_admitted_at, last_admitted, is_old_after}
 use Rattle.fs_master.proofs.Rows.{timeout_case, row_case}
 use Rattle.fs_master.proofs.Counts.{another, never_0, watched_held, always_held}
@@ -32,25 +33,25 @@ abbrev Since : Master → ℕ → Type 0
 Since m s = (eqb m.state 7 && not m.ChFAck_C_e) ≡ false → m.start ≡ s
 
 watched_since : (m : Master) (w at : ℕ) {s : ℕ} → Held m → Since m s → Since (watched m w at) s
-unfolding watched acted t8 t14
+unfolding watched watched_by acted t8 t14
 watched_since m w at {s} h k =
-    timeout_case (λ (r : Row). Since (acted m r at false) s) m w at k (λ not7 e. no (rw (h.no_edge not7) at e)) (λ _ e. no e)
+    timeout_case (λ (r : Option Row). Since (watched_by m r at) s) m w at k (λ not7 e. no (rw (h.no_edge not7) at e)) (λ _ e. no e)
 
 sends_anew : (m : Master) (at : ℕ) → start_from m (count_after m.MCount) at ≡ at
 unfolding start_from
 sends_anew m at = simp (ne_eqb (count_after m.MCount) m.MCount (another m.MCount))
 
-arrived_since : (m : Master) (r : Row) (at : ℕ) (f : Response) (s : ℕ) → let o = arrived m r at f (checked m f) in Since o.master (cond (acts o.arrival) at s)
+arrived_since : (m : Master) (r : Option Row) (at : ℕ) (f : Response) (s : ℕ) → let o = arrived m r at f (checked m f) in Since o.master (cond (acts o.arrival) at s)
 unfolding arrived acted admitted t4 t7 t11 t12 t13
 arrived_since m r at f s =
-    row_case (λ (x : Row). Since (acted (admitted m f) x at f.SDset) (cond (acts x) at s)) m (has_faults (is_failure (checked m f)) f)
+    row_case (λ (x : Row). Since (acted (admitted m f) x at f.SDset) (cond (acts (Some x)) at s)) m (has_faults (is_failure (checked m f)) f)
     (λ _ _ _. sends_anew (admitted m f) at)
     (λ _ _ _. sends_anew (admitted m f) at)
     (λ _ _ _ _. sends_anew (admitted m f) at)
     (λ _ _ _. sends_anew (admitted m f) at)
     (λ _ _ _ _. sends_anew (admitted m f) at)
 
-received_since : (m : Master) (r : Row) (at : ℕ) (f : Response) {s : ℕ} → Since m s → let o = received m r at f in Since o.master (cond (acts o.arrival) at s)
+received_since : (m : Master) (r : Option Row) (at : ℕ) (f : Response) {s : ℕ} → Since m s → let o = received m r at f in Since o.master (cond (acts o.arrival) at s)
 unfolding received quiet
 received_since m r at f {s} k =
     cond_case (λ (o : Outcome). Since o.master (cond (acts o.arrival) at s)) (is_admitted m f) {x = arrived m r at f (checked m f)} {y = quiet m r (is_old m f)}
@@ -70,9 +71,9 @@ record Begins (m : Master) : Type 0 where
   pub again : eqb m.state 7 ≡ true → eqb m.MCount 0 ≡ true → m.ChFAck_C_e ≡ false
 
 watched_begins : (m : Master) (w at : ℕ) → Held m → Begins m → Begins (watched m w at)
-unfolding watched acted t8 t14
+unfolding watched watched_by acted t8 t14
 watched_begins m w at h b =
-    timeout_case (λ (r : Row). Begins (acted m r at false)) m w at b
+    timeout_case (λ (r : Option Row). Begins (watched_by m r at)) m w at b
     (λ not7. record { first = λ e. no (sym e); again = λ _ _. h.no_edge not7 })
     (λ _. record { first = λ e. no (sym e); again = λ _ _. refl })
 
@@ -86,7 +87,7 @@ arrived_begins m f at faults h =
     (λ _ _. record { first = λ e. no (sym e); again = λ _ _. refl })
     (λ _ _ _. record { first = λ e. no (sym e); again = λ _ e. no (sym e ∙ never_0 m.MCount) })
 
-received_begins : (m : Master) (r : Row) (at : ℕ) (f : Response) → Held m → Begins m → Begins (received m r at f).master
+received_begins : (m : Master) (r : Option Row) (at : ℕ) (f : Response) → Held m → Begins m → Begins (received m r at f).master
 unfolding received arrived quiet
 received_begins m r at f h b =
     cond_case (λ (o : Outcome). Begins o.master) (is_admitted m f) (λ _. arrived_begins m f at (has_faults (is_failure (checked m f)) f) h) (λ _. b)

@@ -4,17 +4,17 @@ use mathlib.Core.Path.{◌≡◌, refl}
 use mathlib.Core.Bool.{Bool, true, false, not, ◌&&◌, ◌||◌}
 use lib.Dec.{eqb}
 use borrow.Author.Tests.{not-true, ne_eqb}
+use Rattle.std.specs.Prelude.{Some, None}
 use Rattle.scl.specs.Time.{expired_of}
 use Rattle.scl.specs.Happenings.{mark_of}
 use Rattle.scl.specs.declared.Happening.TheVariants as happening
-use Rattle.scl.specs.declared.Check.TheVariants as check
 use Rattle.scl.specs.declared.Response.{Response}
 use Rattle.scl.proofs.Cases.{and_left, and_right, or_left, or_right, no}
 use Rattle.fs_master.specs.declared.Master.{Master}
 use Rattle.fs_master.specs.declared.Outcome.{Outcome}
-use Rattle.fs_master.specs.declared.Row.TheVariants.{Stay, T4}
+use Rattle.fs_master.specs.declared.Row.TheVariants.{T4}
 use Rattle.fs_master.specs.Table38.{watchdog_row, is_old, is_expected, is_admitted, checked, arrival_row, admitted, t4, acted}
-use Rattle.fs_master.specs.Calls.{watched, arrived, received, step_of}
+use Rattle.fs_master.specs.Calls.{watched, watched_by, arrived, received, step_of}
 use Rattle.fs_master.specs.Regular.{is_regular}
 
 -- what is_regular asks, one by one
@@ -72,9 +72,9 @@ is_admitted_lem m w at f a =
 abbrev pub regular_outcome : Master → ℕ → Response → Outcome
 regular_outcome m at f = record {
   master = t4 (admitted m f) at f.SDset;
-  watchdog = Stay;
-  arrival = T4;
-  check = check.None;
+  watchdog = None;
+  arrival = Some T4;
+  check = None;
   old = false;
   passed = true;
   sent = m.start;
@@ -83,7 +83,7 @@ regular_outcome m at f = record {
 
 -- A regular call has no row but T4, and what it makes of the master is that row's.
 pub regular_step : (m : Master) (w at : ℕ) (f : Response) → is_regular m w at f ≡ true → step_of m w (happening.Response at f) ≡ regular_outcome m at f
-unfolding step_of watched watchdog_row received arrived checked arrival_row acted
+unfolding step_of watched watched_by watchdog_row received arrived checked arrival_row acted
 regular_step m w at f e =
     let a = asked m w at f e in
     simp (a.in_time, is_admitted_lem m w at f a, a.signature, a.port, a.count, a.no_error, a.no_timeout, a.not_old, not_7 m.state a.waits)

@@ -1,12 +1,13 @@
 -- When the FS-Master releases. Assumes nothing.
 use Prim.Native.Nat.{ℕ}
 use native.Mathlib.Omega.{arith}
-use mathlib.Core.Path.{◌≡◌, refl}
+use mathlib.Core.Path.{◌≡◌, refl, ap}
 use mathlib.Core.Bool.{Bool, true, false, not, ◌&&◌, ◌||◌}
 use mathlib.Core.List.{List, [], ◌∷◌}
 use mathlib.Core.Logic.{◌⊎◌, inl, inr, ⊎_elim}
 use lib.Dec.{eqb}
 use borrow.Author.Tests.{not-true}
+use Rattle.std.specs.Prelude.{Option, Some}
 use Rattle.scl.specs.Happenings.{reading_of, check_of, is_failure, mark_of}
 use Rattle.scl.specs.declared.Happening.{Happening}
 use Rattle.scl.specs.declared.Happening.TheVariants as happening
@@ -19,7 +20,7 @@ use Rattle.fs_master.specs.declared.Master.{Master}
 use Rattle.fs_master.specs.declared.Outcome.{Outcome}
 use Rattle.fs_master.specs.declared.Row.{Row}
 use Rattle.fs_master.specs.Table38.{watchdog_row, is_old, is_expected, is_admitted, has_faults, checked, arrival_row, admitted, t4, t7, t8, t11, t12, t13, t14, acted, signalled}
-use Rattle.fs_master.specs.Calls.{watched, quiet, arrived, received, clocked, operated, step_of}
+use Rattle.fs_master.specs.Calls.{watched, watched_by, quiet, arrived, received, clocked, operated, step_of}
 use Rattle.fs_master.specs.History.{Releases, releasing_row, FreshBy, master_after, watched_in, passes_by, has_passed}
 use Rattle.fs_master.proofs.Rows.{timeout_case, row_case}
 
@@ -29,7 +30,7 @@ goes_on e = let z : ◌≡◌ {A = ℕ} 0 1 = cc in absurd (omega arith)
 safe : {A : Type 0} → Safe ≡ Fresh → A
 safe e = let z : ◌≡◌ {A = ℕ} 0 1 = cc in absurd (omega arith)
 
-quiet-not : (m : Master) (r : Row) (old : Bool) {A : Type 0} → (quiet m r old).mark ≡ Fresh → A
+quiet-not : (m : Master) (r : Option Row) (old : Bool) {A : Type 0} → (quiet m r old).mark ≡ Fresh → A
 unfolding quiet
 quiet-not m r old {A} =
     cond_case (λ (x : Mark). x ≡ Fresh → A) (not m.released) (λ _ e. safe e) (λ _ e. goes_on e)
@@ -56,7 +57,7 @@ row_asks m f at faults =
     (λ s t e. no (cc))
     (λ s n a e. no (cc))
 
-answered_fresh : (m : Master) (r : Row) (at : ℕ) (f : Response) → is_admitted m f ≡ true → (arrived m r at f (checked m f)).mark ≡ Fresh → Releases m f × ((arrived m r at f (checked m f)).arrival ≡ releasing_row m)
+answered_fresh : (m : Master) (r : Option Row) (at : ℕ) (f : Response) → is_admitted m f ≡ true → (arrived m r at f (checked m f)).mark ≡ Fresh → Releases m f × ((arrived m r at f (checked m f)).arrival ≡ Some (releasing_row m))
 unfolding arrived checked
 answered_fresh m r at f t e =
     let MCommErr = is_failure (check_of f.signature_holds f.port_holds (is_expected m f)) in
@@ -74,13 +75,13 @@ answered_fresh m r at f t e =
         not_asked = a.not_asked;
         acknowledged = a.acknowledged;
       },
-      a.row,
+      ap (λ (x : Row). Some x) a.row,
     )
 
-received_fresh : (m : Master) (r : Row) (at : ℕ) (f : Response) → (received m r at f).mark ≡ Fresh → Releases m f × ((received m r at f).arrival ≡ releasing_row m)
+received_fresh : (m : Master) (r : Option Row) (at : ℕ) (f : Response) → (received m r at f).mark ≡ Fresh → Releases m f × ((received m r at f).arrival ≡ Some (releasing_row m))
 unfolding received
 received_fresh m r at f =
-    cond_case (λ (o : Outcome). o.mark ≡ Fresh → Releases m f × (o.arrival ≡ releasing_row m)) (is_admitted m f) (answered_fresh m r at f) (λ _. quiet-not m r (is_old m f))
+    cond_case (λ (o : Outcome). o.mark ≡ Fresh → Releases m f × (o.arrival ≡ Some (releasing_row m))) (is_admitted m f) (answered_fresh m r at f) (λ _. quiet-not m r (is_old m f))
 
 -- Fresh octets are handed on in T4 and T11 alone, under the row's conditions;
 pub fresh_only : (m : Master) (w : ℕ) (h : Happening) → (step_of m w h).mark ≡ Fresh → FreshBy m w h
@@ -100,7 +101,7 @@ fresh_row m f at c =
     (λ s t. no (cc))
     (λ s n a. no (cc (c.acknowledged s)))
 
-arrived_fresh : (m : Master) (r : Row) (at : ℕ) (f : Response) → Releases m f → (arrived m r at f (checked m f)).mark ≡ Fresh
+arrived_fresh : (m : Master) (r : Option Row) (at : ℕ) (f : Response) → Releases m f → (arrived m r at f (checked m f)).mark ≡ Fresh
 unfolding arrived checked
 arrived_fresh m r at f c = simp (c.signature, c.port, c.count, c.no_error, c.no_timeout, fresh_row m f at c)
 
@@ -111,14 +112,14 @@ fresh_if m w at f c = rw c.admitted (arrived_fresh (watched m w at) (watchdog_ro
 
 -- release ends or goes on
 watched_released : (m : Master) (w at : ℕ) → (watched m w at).released ≡ true → m.released ≡ true
-unfolding watched acted t8 t14
+unfolding watched watched_by acted t8 t14
 watched_released m w at =
-    timeout_case (λ (r : Row). (acted m r at false).released ≡ true → m.released ≡ true) m w at (λ e. e) (λ _ e. no (cc)) (λ _ e. no (cc))
+    timeout_case (λ (r : Option Row). (watched_by m r at).released ≡ true → m.released ≡ true) m w at (λ e. e) (λ _ e. no (cc)) (λ _ e. no (cc))
 
 handed_fresh : (b : Bool) → b ≡ true → mark_of true b ≡ Fresh
 handed_fresh b e = simp e
 
-received_released : (m : Master) (r : Row) (at : ℕ) (f : Response) → (received m r at f).master.released ≡ true → ((received m r at f).mark ≡ Fresh) ⊎ (m.released ≡ true)
+received_released : (m : Master) (r : Option Row) (at : ℕ) (f : Response) → (received m r at f).master.released ≡ true → ((received m r at f).mark ≡ Fresh) ⊎ (m.released ≡ true)
 unfolding received arrived quiet
 received_released m r at f =
     cond_case (λ (o : Outcome). o.master.released ≡ true → (o.mark ≡ Fresh) ⊎ (m.released ≡ true)) (is_admitted m f) (λ _ e. inl (handed_fresh _ e)) (λ _ e. inr e)

@@ -4,6 +4,7 @@ use mathlib.Core.Path.{◌≡◌, refl, sym}
 use mathlib.Core.Bool.{Bool, true, false, cond, ◌&&◌}
 use lib.Dec.{eqb}
 use borrow.Author.Tests.{eq-eqb}
+use Rattle.std.specs.Prelude.{Option}
 use Rattle.scl.specs.Counts.{inverted}
 use Rattle.scl.specs.Happenings.{reading_of, is_failure}
 use Rattle.scl.specs.declared.Happening.{Happening}
@@ -14,9 +15,10 @@ use Rattle.scl.specs.declared.Response.{Response}
 use Rattle.fs_master.specs.declared.Master.{Master}
 use Rattle.fs_master.specs.declared.Outcome.{Outcome}
 use Rattle.fs_master.specs.declared.Row.{Row}
-use Rattle.fs_master.specs.declared.Row.TheVariants.{Stay, T4, T7, T8, T11, T12, T13, T14}
+use Rattle.fs_master.specs.declared.Row.TheVariants.{T4, T7, T8, T11, T12, T13, T14}
 use Rattle.fs_master.specs.Table38.{watchdog_row, is_old, is_admitted, has_faults, checked, is_expected, arrival_row, admitted, start_from, t4, t7, t8, t11, t12, t13, t14, acted, signalled}
 use Rattle.fs_master.specs.Calls.{watched, quiet, arrived, received, clocked, operated, step_of}
+use Rattle.fs_master.proofs.Rows.{watched_case}
 use Rattle.fs_master.specs.History.{sound, passes_by}
 
 -- ---- the start
@@ -30,7 +32,6 @@ stays m at = simp (eq-eqb m.MCount m.MCount refl)
 
 acted-start : (m : Master) (r : Row) (at : ℕ) (SDset : Bool) → (acted m r at SDset).start ≡ start_after m (acted m r at SDset).MCount at
 unfolding acted start_from t4 t7 t8 t11 t12 t13 t14
-acted-start m Stay at SDset = stays m at
 acted-start m T4 at SDset = refl
 acted-start m T7 at SDset = refl
 acted-start m T8 at SDset = refl
@@ -40,14 +41,13 @@ acted-start m T13 at SDset = refl
 acted-start m T14 at SDset = refl
 
 pub watched-start : (m : Master) (w at : ℕ) → (watched m w at).start ≡ start_after m (watched m w at).MCount at
-unfolding watched
-watched-start m w at = acted-start m (watchdog_row m w at) at false
+watched-start m w at = watched_case (λ (n : Master). n.start ≡ start_after m n.MCount at) m w at (stays m at) (λ r. acted-start m r at false)
 
 arrived-start : (m : Master) (f : Response) (r : Row) (at : ℕ) → (acted (admitted m f) r at f.SDset).start ≡ start_after m (acted (admitted m f) r at f.SDset).MCount at
 unfolding admitted
 arrived-start m f r at = acted-start (admitted m f) r at f.SDset
 
-received-start : (m : Master) (r : Row) (at : ℕ) (f : Response) → (received m r at f).master.start ≡ start_after m (received m r at f).master.MCount at
+received-start : (m : Master) (r : Option Row) (at : ℕ) (f : Response) → (received m r at f).master.start ≡ start_after m (received m r at f).master.MCount at
 unfolding received arrived quiet
 received-start m r at f =
     cond_case (λ (o : Outcome). o.master.start ≡ start_after m o.master.MCount at) (is_admitted m f) {x = arrived m r at f (checked m f)} {y = quiet m r (is_old m f)}
@@ -63,7 +63,7 @@ step_start m w (happening.Operator at setSD_C ChFAck_C) = stays (watched m w at)
 
 -- ---- the start that a response's time runs from: the one that is kept once the watchdog has been looked at
 
-received-sent : (m : Master) (r : Row) (at : ℕ) (f : Response) → (received m r at f).sent ≡ m.start
+received-sent : (m : Master) (r : Option Row) (at : ℕ) (f : Response) → (received m r at f).sent ≡ m.start
 unfolding received arrived quiet
 received-sent m r at f = cond_case (λ (o : Outcome). o.sent ≡ m.start) (is_admitted m f) (λ _. refl) (λ _. refl)
 
@@ -76,7 +76,7 @@ step_of-sent m w (happening.Operator at setSD_C ChFAck_C) = refl
 
 -- ---- the watchdog's row
 
-received_watchdog : (m : Master) (r : Row) (at : ℕ) (f : Response) → (received m r at f).watchdog ≡ r
+pub received_watchdog : (m : Master) (r : Option Row) (at : ℕ) (f : Response) → (received m r at f).watchdog ≡ r
 unfolding received arrived quiet
 received_watchdog m r at f = cond_case (λ (o : Outcome). o.watchdog ≡ r) (is_admitted m f) (λ _. refl) (λ _. refl)
 
@@ -89,7 +89,7 @@ step_watchdog m w (happening.Operator at setSD_C ChFAck_C) = refl
 
 -- ---- what passes
 
-received_passed : (m : Master) (r : Row) (at : ℕ) (f : Response) → (received m r at f).passed ≡ (is_admitted m f && sound m f)
+received_passed : (m : Master) (r : Option Row) (at : ℕ) (f : Response) → (received m r at f).passed ≡ (is_admitted m f && sound m f)
 unfolding received arrived quiet checked
 received_passed m r at f = go (is_admitted m f)
   where
@@ -118,7 +118,6 @@ pub record Kept (previous : Bool) (carried awaited : ℕ) (m : Master) : Type 0 
 
 acted_kept : (m : Master) (r : Row) (at : ℕ) (SDset : Bool) {previous : Bool} {carried awaited : ℕ} → Kept previous carried awaited m → Kept previous carried awaited (acted m r at SDset)
 unfolding acted t4 t7 t8 t11 t12 t13 t14
-acted_kept m Stay at SDset k = k
 acted_kept m T4 at SDset k = record { previous_is = k.previous_is; carried_is = k.carried_is; awaited_is = k.awaited_is }
 acted_kept m T7 at SDset k = record { previous_is = k.previous_is; carried_is = k.carried_is; awaited_is = k.awaited_is }
 acted_kept m T8 at SDset k = record { previous_is = k.previous_is; carried_is = k.carried_is; awaited_is = k.awaited_is }
@@ -129,10 +128,9 @@ acted_kept m T14 at SDset k = record { previous_is = k.previous_is; carried_is =
 
 -- the watchdog leaves it
 pub watched_kept : (m : Master) (w at : ℕ) {previous : Bool} {carried awaited : ℕ} → Kept previous carried awaited m → Kept previous carried awaited (watched m w at)
-unfolding watched
-watched_kept m w at k = acted_kept m (watchdog_row m w at) at false k
+watched_kept m w at {previous} {carried} {awaited} k = watched_case (Kept previous carried awaited) m w at k (λ r. acted_kept m r at false k)
 
-received_kept : (m : Master) (r : Row) (at : ℕ) (f : Response) {previous : Bool} {carried awaited : ℕ} → Kept previous carried awaited m → Kept (cond (is_admitted m f) true previous) (cond (is_admitted m f) f.DCount_i carried) (cond (is_admitted m f) (inverted m.MCount) awaited) (received m r at f).master
+received_kept : (m : Master) (r : Option Row) (at : ℕ) (f : Response) {previous : Bool} {carried awaited : ℕ} → Kept previous carried awaited m → Kept (cond (is_admitted m f) true previous) (cond (is_admitted m f) f.DCount_i carried) (cond (is_admitted m f) (inverted m.MCount) awaited) (received m r at f).master
 unfolding received arrived quiet admitted
 received_kept m r at f {previous} {carried} {awaited} k = go (is_admitted m f)
   where

@@ -7,6 +7,7 @@ use mathlib.Core.List.{List, [], ◌∷◌}
 use mathlib.Core.Logic.{◌⊎◌, inl, inr}
 use lib.Dec.{eqb}
 use borrow.Author.Tests.{eqb-true, lt-ltb, not-true}
+use Rattle.std.specs.Prelude.{Option, Some, None}
 use Rattle.scl.specs.Time.{elapsed_of, expired_of}
 use Rattle.scl.specs.Happenings.{reading_of, is_failure}
 use Rattle.scl.specs.declared.Happening.{Happening}
@@ -17,9 +18,9 @@ use Rattle.scl.proofs.Cases.{cond_case, cond-or, no, and_left, and_right}
 use Rattle.fs_master.specs.declared.Master.{Master}
 use Rattle.fs_master.specs.declared.Outcome.{Outcome}
 use Rattle.fs_master.specs.declared.Row.{Row}
-use Rattle.fs_master.specs.declared.Row.TheVariants.{Stay, T8, T14}
+use Rattle.fs_master.specs.declared.Row.TheVariants.{T8, T14}
 use Rattle.fs_master.specs.Table38.{timeout_row, watchdog_row, is_old, is_admitted, has_faults, checked, arrival_row, admitted, t4, t7, t8, t11, t12, t13, t14, acted, signalled}
-use Rattle.fs_master.specs.Calls.{watched, quiet, arrived, received, clocked, operated, step_of}
+use Rattle.fs_master.specs.Calls.{watched, watched_by, quiet, arrived, received, clocked, operated, step_of}
 use Rattle.fs_master.specs.History.{master_after, Held, acts, arrives, watches, last_row, last_admitted_at, times_out}
 use Rattle.fs_master.proofs.Rows.{timeout_case, row_case}
 use Rattle.fs_master.proofs.Counts.{always_held}
@@ -33,24 +34,24 @@ record Timed (m : Master) (at : ℕ) (row : Bool) (n : Master) : Type 0 where
   pub goes : (m.runs ≡ not (eqb m.state 2)) → n.runs ≡ not (eqb n.state 2)
 
 watched_timed : (m : Master) (w at : ℕ) → Timed m at (acts (watchdog_row m w at)) (watched m w at)
-unfolding watched acted t8 t14
+unfolding watched watched_by acted t8 t14
 watched_timed m w at =
-    timeout_case (λ (r : Row). Timed m at (acts r) (acted m r at false)) m w at
+    timeout_case (λ (r : Option Row). Timed m at (acts r) (watched_by m r at)) m w at
     (record { reads = refl; runs_is = refl; goes = λ e. e })
     (λ _. record { reads = refl; runs_is = refl; goes = λ _. refl })
     (λ _. record { reads = refl; runs_is = refl; goes = λ _. refl })
 
-arrived_timed : (m : Master) (r : Row) (at : ℕ) (f : Response) → let o = arrived m r at f (checked m f) in Timed m at (acts o.arrival) o.master
+arrived_timed : (m : Master) (r : Option Row) (at : ℕ) (f : Response) → let o = arrived m r at f (checked m f) in Timed m at (acts o.arrival) o.master
 unfolding arrived acted admitted t4 t7 t11 t12 t13
 arrived_timed m r at f =
-    row_case (λ (x : Row). Timed m at (acts x) (acted (admitted m f) x at f.SDset)) m (has_faults (is_failure (checked m f)) f)
+    row_case (λ (x : Row). Timed m at (acts (Some x)) (acted (admitted m f) x at f.SDset)) m (has_faults (is_failure (checked m f)) f)
     (λ _ _. record { reads = refl; runs_is = refl; goes = λ _. refl })
     (λ _ _. record { reads = refl; runs_is = refl; goes = λ _. refl })
     (λ _ _ _. record { reads = refl; runs_is = refl; goes = λ _. refl })
     (λ _ _. record { reads = refl; runs_is = refl; goes = λ _. refl })
     (λ _ _ _. record { reads = refl; runs_is = refl; goes = λ _. refl })
 
-received_timed : (m : Master) (r : Row) (at : ℕ) (f : Response) → let o = received m r at f in Timed m at (acts o.arrival) o.master
+received_timed : (m : Master) (r : Option Row) (at : ℕ) (f : Response) → let o = received m r at f in Timed m at (acts o.arrival) o.master
 unfolding received quiet
 received_timed m r at f =
     cond_case (λ (o : Outcome). Timed m at (acts o.arrival) o.master) (is_admitted m f) {x = arrived m r at f (checked m f)} {y = quiet m r (is_old m f)}
@@ -67,11 +68,11 @@ step_timed m w (happening.Response at f) =
       reads =
           k.reads ∙ ap (λ (t : ℕ). cond (acts o.arrival) at t) j.reads
           ∙ cond-or (acts o.arrival) (acts (watchdog_row m w at)) at m.MTimer
-          ∙ ap (λ (r : Row). cond (acts o.arrival || acts r) at m.MTimer) (sym (step_watchdog m w (happening.Response at f)));
+          ∙ ap (λ (r : Option Row). cond (acts o.arrival || acts r) at m.MTimer) (sym (step_watchdog m w (happening.Response at f)));
       runs_is =
           k.runs_is ∙ ap (λ (b : Bool). cond (acts o.arrival) true b) j.runs_is
           ∙ cond-or (acts o.arrival) (acts (watchdog_row m w at)) true m.runs
-          ∙ ap (λ (r : Row). cond (acts o.arrival || acts r) true m.runs) (sym (step_watchdog m w (happening.Response at f)));
+          ∙ ap (λ (r : Option Row). cond (acts o.arrival || acts r) true m.runs) (sym (step_watchdog m w (happening.Response at f)));
       goes = λ e. k.goes (j.goes e);
     }
 step_timed m w (happening.Request at q) = watched_timed m w at
@@ -87,12 +88,12 @@ pub record Ended (n : Master) : Type 0 where
   pub no_edge : n.ChFAck_C_e ≡ false
   pub silent : n.released ≡ false
 
-late_by : (m : Master) (at : ℕ) → Held m → eqb m.state 2 ≡ false → Ended (acted m (timeout_row m.state) at false)
-unfolding acted t8 t14
+late_by : (m : Master) (at : ℕ) → Held m → eqb m.state 2 ≡ false → Ended (watched_by m (timeout_row m.state) at)
+unfolding watched_by acted t8 t14
 late_by m at h not2 = go (eqb m.state 5) (eqb m.state 7) refl refl h.rests
   where
     go : (in5 in7 : Bool) → eqb m.state 5 ≡ in5 → eqb m.state 7 ≡ in7 → (eqb m.state 2 || eqb m.state 5 || eqb m.state 7) ≡ true
-        → Ended (acted m (cond in5 T8 (cond in7 T14 Stay)) at false)
+        → Ended (watched_by m (cond in5 (Some T8) (cond in7 (Some T14) None)) at)
     go true true e5 e7 r = absurd (omega (arith, eqb-true m.state 5 e5, eqb-true m.state 7 e7))
     go true false e5 e7 r = record { in7 = refl; no_request = sym h.same ∙ h.no_request e7; no_edge = h.no_edge e7; silent = refl }
     go false true e5 e7 r = record { in7 = refl; no_request = refl; no_edge = refl; silent = refl }
@@ -116,7 +117,7 @@ ended_row m f at faults e =
     (λ _ _. refl)
     (λ _ _ _. refl)
 
-ended_received : (m : Master) (r : Row) (at : ℕ) (f : Response) → Ended m → (received m r at f).master.released ≡ false
+ended_received : (m : Master) (r : Option Row) (at : ℕ) (f : Response) → Ended m → (received m r at f).master.released ≡ false
 unfolding received arrived quiet
 ended_received m r at f e =
     cond_case (λ (o : Outcome). o.master.released ≡ false) (is_admitted m f) {x = arrived m r at f (checked m f)} {y = quiet m r (is_old m f)}
@@ -129,7 +130,7 @@ timed_out m w at h outside e =
     rw e (late_by m at h (not-true (eqb m.state 2) (sym outside ∙ and_left m.runs (expired_of at m.MTimer w) e)))
 
 pub not_timed_out : (m : Master) (w at : ℕ) → times_out m w at ≡ false → watched m w at ≡ m
-unfolding watched watchdog_row acted
+unfolding watched watched_by watchdog_row
 not_timed_out m w at e = rw e
 
 late-step : (m : Master) (w : ℕ) (h : Happening) → Ended (watched m w (reading_of h)) → (step_of m w h).master.released ≡ false
@@ -151,13 +152,10 @@ late at w past h runs over =
 
 -- where a call leaves values released, its SPDU was admitted; or no row acted and they were released before
 still-watched : (m : Master) (w at : ℕ) → (watched m w at).released ≡ true → (acts (watchdog_row m w at) ≡ false) × (m.released ≡ true)
-unfolding watched acted t8 t14
+unfolding watched watched_by acted t8 t14
 still-watched m w at =
-    timeout_case (λ (r : Row). (acted m r at false).released ≡ true → (acts r ≡ false) × (m.released ≡ true)) m w at
+    timeout_case (λ (r : Option Row). (watched_by m r at).released ≡ true → (acts r ≡ false) × (m.released ≡ true)) m w at
     (λ e. (refl, e)) (λ _ e. no (sym e)) (λ _ e. no (sym e))
-
-arrival_acts : (m : Master) (faults : Bool) → acts (arrival_row m faults) ≡ true
-arrival_acts m faults = row_case (λ (r : Row). acts r ≡ true) m faults (λ _ _. refl) (λ _ _. refl) (λ _ _ _. refl) (λ _ _. refl) (λ _ _ _. refl)
 
 abbrev Still : Master → ℕ → Outcome → Type 0
 Still m w o = (acts o.arrival ≡ true) ⊎ ((acts o.arrival ≡ false) × ((acts o.watchdog ≡ false) × (m.released ≡ true)))
@@ -167,7 +165,7 @@ unfolding step_of clocked operated quiet signalled received arrived
 still m w (happening.Response at f) =
     let j = watched m w at in
     cond_case (λ (o : Outcome). o.master.released ≡ true → Still m w o) (is_admitted j f) {x = arrived j (watchdog_row m w at) at f (checked j f)} {y = quiet j (watchdog_row m w at) (is_old j f)}
-    (λ _ _. inl (arrival_acts j (has_faults (is_failure (checked j f)) f)))
+    (λ _ _. inl refl)
     (λ _ e. inr (refl, still-watched m w at e))
 still m w (happening.Request at q) = λ e. inr (refl, still-watched m w at e)
 still m w (happening.Clock at) = λ e. inr (refl, still-watched m w at e)

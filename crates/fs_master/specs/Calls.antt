@@ -1,28 +1,30 @@
 -- One happening at the FS-Master: the watchdog is looked at with its reading, then an SPDU that came for this end. Assumes nothing.
-use Rattle.std.specs.Prelude.{ℕ, Bool, true, false, cond, not}
+use Rattle.std.specs.Prelude.{ℕ, Bool, true, false, cond, not, Option, Some, None}
 use Rattle.scl.specs.Happenings.{is_failure, mark_of}
 use Rattle.scl.specs.declared.Happening.{Happening}
 use Rattle.scl.specs.declared.Happening.TheVariants as happening
 use Rattle.scl.specs.declared.Check.{Check}
-use Rattle.scl.specs.declared.Check.TheVariants as check
 use Rattle.scl.specs.declared.Response.{Response}
 use Rattle.fs_master.specs.declared.Master.{Master}
 use Rattle.fs_master.specs.declared.Outcome.{Outcome}
 use Rattle.fs_master.specs.declared.Row.{Row}
-use Rattle.fs_master.specs.declared.Row.TheVariants.{Stay}
 use Rattle.fs_master.specs.Table38.{watchdog_row, is_old, is_admitted, checked, has_faults, arrival_row, admitted, acted, signalled}
 
--- the FS-Master once its watchdog has been looked at
+-- the FS-Master once its watchdog has been looked at, which led to this row
+unfoldable pub watched_by : Master → Option Row → ℕ → Master
+watched_by m None at = m
+watched_by m (Some row) at = acted m row at false
+
 unfoldable pub watched : Master → ℕ → ℕ → Master
-watched m w at = acted m (watchdog_row m w at) at false
+watched m w at = watched_by m (watchdog_row m w at) at
 
 -- no SPDU led to a row (R13a): the watchdog's row, and whether one came that was old. A sample's time runs from what is kept after that row (R17)
-unfoldable pub quiet : Master → Row → Bool → Outcome
+unfoldable pub quiet : Master → Option Row → Bool → Outcome
 quiet m watchdog old = record {
   master = m;
   watchdog = watchdog;
-  arrival = Stay;
-  check = check.None;
+  arrival = None;
+  check = None;
   old = old;
   passed = false;
   sent = m.start;
@@ -30,14 +32,14 @@ quiet m watchdog old = record {
 }
 
 -- an SPDU that is admitted (R14), with the check that failed first; it passes where none did (R14a)
-unfoldable pub arrived : Master → Row → ℕ → Response → Check → Outcome
+unfoldable pub arrived : Master → Option Row → ℕ → Response → Option Check → Outcome
 arrived m watchdog at f failed =
     let row = arrival_row m (has_faults (is_failure failed) f) in
     let after = acted (admitted m f) row at f.SDset in
     record {
       master = after;
       watchdog = watchdog;
-      arrival = row;
+      arrival = Some row;
       check = failed;
       old = is_old m f;
       passed = not (is_failure failed);
@@ -46,7 +48,7 @@ arrived m watchdog at f failed =
     }
 
 -- an SPDU received, at a master whose watchdog has been looked at
-unfoldable pub received : Master → Row → ℕ → Response → Outcome
+unfoldable pub received : Master → Option Row → ℕ → Response → Outcome
 received m watchdog at f = cond (is_admitted m f) (arrived m watchdog at f (checked m f)) (quiet m watchdog (is_old m f))
 
 -- the clock, and the other end's SPDU

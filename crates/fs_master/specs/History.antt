@@ -1,5 +1,6 @@
 -- What the rows come to, over the definitions of this folder: the words in which the theorems of proofs/ are stated. Assumes nothing.
-use Rattle.std.specs.Prelude.{ℕ, ◌≡◌, Bool, true, false, cond, not, ◌&&◌, ◌||◌, List, [], ◌∷◌, eqb}
+use Rattle.std.specs.Prelude.{ℕ, ◌≡◌, Bool, true, false, cond, not, ◌&&◌, ◌||◌, List, [], ◌∷◌, eqb, Option, Some}
+use Rattle.std.specs.Prelude as prelude
 use Rattle.scl.specs.Time.{expired_of}
 use Rattle.scl.specs.Counts.{count_after, inverted}
 use Rattle.scl.specs.Happenings.{reading_of}
@@ -11,7 +12,7 @@ use Rattle.scl.specs.declared.Response.{Response}
 use Rattle.fs_master.specs.declared.Master.{Master}
 use Rattle.fs_master.specs.declared.Outcome.{Outcome}
 use Rattle.fs_master.specs.declared.Row.{Row}
-use Rattle.fs_master.specs.declared.Row.TheVariants.{Stay, T4, T7, T8, T11, T12, T13, T14}
+use Rattle.fs_master.specs.declared.Row.TheVariants.{T4, T7, T8, T11, T12, T13, T14}
 use Rattle.fs_master.specs.Table38.{first_master, is_expected, is_admitted}
 use Rattle.fs_master.specs.Calls.{watched, step_of}
 
@@ -33,7 +34,7 @@ releasing_row m = cond (eqb m.state 7) T11 T4
 -- the happening of a call that hands on fresh octets
 unfoldable pub FreshBy : Master → ℕ → Happening → Type 0
 FreshBy m w (happening.Response at f) =
-    Releases (watched m w at) f × ((step_of m w (happening.Response at f)).arrival ≡ releasing_row (watched m w at))
+    Releases (watched m w at) f × ((step_of m w (happening.Response at f)).arrival ≡ Some (releasing_row (watched m w at)))
 FreshBy m w (happening.Request at request) = ⊥
 FreshBy m w (happening.Clock at) = ⊥
 FreshBy m w (happening.Operator at setSD_C ChFAck_C) = ⊥
@@ -86,15 +87,9 @@ HasSignals s m = (m.setSD_C ≡ s.setSD_C) × (m.ChFAck_C ≡ s.ChFAck_C)
 -- ---- Rows that act
 
 -- a row acts, and restarts MTimer (T5 and T9 stand behind it)
-abbrev pub acts : Row → Bool
-acts Stay = false
-acts T4 = true
-acts T7 = true
-acts T8 = true
-acts T11 = true
-acts T12 = true
-acts T13 = true
-acts T14 = true
+abbrev pub acts : Option Row → Bool
+acts prelude.None = false
+acts (Some row) = true
 
 -- in a call: the row of a response that is admitted, and the watchdog's
 abbrev pub arrives : ℕ → Master → Happening → Bool
@@ -158,15 +153,15 @@ fault at w (h ∷ past) =
     cond (faulty_by m h) Open (cond (admitted_by m h) (answered_by (signals past).ChFAck_C before) before)
 
 -- the rows of FAULTS
-abbrev pub opens : Row → Bool
-opens Stay = false
-opens T4 = false
-opens T7 = true
-opens T8 = true
-opens T11 = false
-opens T12 = true
-opens T13 = false
-opens T14 = true
+abbrev pub opens : Option Row → Bool
+opens prelude.None = false
+opens (Some T4) = false
+opens (Some T7) = true
+opens (Some T8) = true
+opens (Some T11) = false
+opens (Some T12) = true
+opens (Some T13) = false
+opens (Some T14) = true
 
 -- ChFAckReq_S is 1
 abbrev pub is_requested : Fault → Bool
@@ -207,15 +202,15 @@ set_when_admitted at w (h ∷ past) = cond (admitted_by (watched_in at w past h)
 -- ---- What holds of one call
 
 -- what a row of 000 Table 38 makes of MCount
-unfoldable pub count_after_row : Row → ℕ → ℕ
-count_after_row Stay count = count
-count_after_row T4 count = count_after count
-count_after_row T7 count = count_after count
-count_after_row T8 count = 0
-count_after_row T11 count = count_after count
-count_after_row T12 count = count_after count
-count_after_row T13 count = count_after count
-count_after_row T14 count = 0
+unfoldable pub count_after_row : Option Row → ℕ → ℕ
+count_after_row prelude.None count = count
+count_after_row (Some T4) count = count_after count
+count_after_row (Some T7) count = count_after count
+count_after_row (Some T8) count = 0
+count_after_row (Some T11) count = count_after count
+count_after_row (Some T12) count = count_after count
+count_after_row (Some T13) count = count_after count
+count_after_row (Some T14) count = 0
 
 -- in one of the three waits
 abbrev pub waits : Master → Bool

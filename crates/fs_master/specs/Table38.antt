@@ -4,7 +4,7 @@
 --
 -- How an action is written: "use PDin" is released, "use SDin" and "use SD" are not; setSD says whether PDout or SDout goes out (R25).
 -- "restart MTimer" is MTimer at the call's reading, running. A bit is 1 where its variable is true.
-use Rattle.std.specs.Prelude.{ℕ, Bool, true, false, cond, not, ◌&&◌, ◌||◌, eqb}
+use Rattle.std.specs.Prelude.{ℕ, Bool, true, false, cond, not, ◌&&◌, ◌||◌, eqb, Option, Some, None}
 use Rattle.scl.specs.Time.{expired_of}
 use Rattle.scl.specs.Counts.{count_after, inverted}
 use Rattle.scl.specs.Happenings.{check_of}
@@ -12,7 +12,7 @@ use Rattle.scl.specs.declared.Check.{Check}
 use Rattle.scl.specs.declared.Response.{Response}
 use Rattle.fs_master.specs.declared.Master.{Master}
 use Rattle.fs_master.specs.declared.Row.{Row}
-use Rattle.fs_master.specs.declared.Row.TheVariants.{Stay, T4, T7, T8, T11, T12, T13, T14}
+use Rattle.fs_master.specs.declared.Row.TheVariants.{T4, T7, T8, T11, T12, T13, T14}
 
 -- R17b: after an accepted block with its reading, T1 (use SD, setSD = 1, SDset_S = 1, MCount = 0) and T2 done
 abbrev pub first_master : ℕ → Master
@@ -38,12 +38,12 @@ first_master at = record {
 -- Guards
 
 -- MTimeout: T8 from 5, T14 from 7
-abbrev pub timeout_row : ℕ → Row
-timeout_row state = cond (eqb state 5) T8 (cond (eqb state 7) T14 Stay)
+abbrev pub timeout_row : ℕ → Option Row
+timeout_row state = cond (eqb state 5) (Some T8) (cond (eqb state 7) (Some T14) None)
 
 -- MTimer does not run in 2 (R11)
-unfoldable pub watchdog_row : Master → ℕ → ℕ → Row
-watchdog_row m w at = cond (m.runs && expired_of at m.MTimer w) (timeout_row m.state) Stay
+unfoldable pub watchdog_row : Master → ℕ → ℕ → Option Row
+watchdog_row m w at = cond (m.runs && expired_of at m.MTimer w) (timeout_row m.state) None
 
 -- Expected SPDU: "DCount_i = inverted MCount"
 abbrev pub is_expected : Master → Response → Bool
@@ -63,7 +63,7 @@ is_admitted m f =
     || eqb m.state 7 && (not (is_old m f) || eqb m.MCount 0 && is_expected m f))
 
 -- do CRC_check, do PortNum_check, do Counter_check (R13)
-unfoldable pub checked : Master → Response → Check
+unfoldable pub checked : Master → Response → Option Check
 checked m f = check_of f.signature_holds f.port_holds (is_expected m f)
 
 -- FAULTS (Table 37; R15): MCommErr, DCommErr, DTimeout
@@ -286,7 +286,6 @@ t14 m at = record {
 
 -- the row's action, at the call's reading, with the SDset of the SPDU where there is one
 unfoldable pub acted : Master → Row → ℕ → Bool → Master
-acted m Stay at SDset = m
 acted m T4 at SDset = t4 m at SDset
 acted m T7 at SDset = t7 m at
 acted m T8 at SDset = t8 m at
@@ -317,12 +316,12 @@ signalled m setSD_C ChFAck_C = record {
 }
 
 -- the number of a row outside: 000's, and 0 for none
-abbrev pub row_number_of : Row → ℕ
-row_number_of Stay = 0
-row_number_of T4 = 4
-row_number_of T7 = 7
-row_number_of T8 = 8
-row_number_of T11 = 11
-row_number_of T12 = 12
-row_number_of T13 = 13
-row_number_of T14 = 14
+abbrev pub row_number_of : Option Row → ℕ
+row_number_of None = 0
+row_number_of (Some T4) = 4
+row_number_of (Some T7) = 7
+row_number_of (Some T8) = 8
+row_number_of (Some T11) = 11
+row_number_of (Some T12) = 12
+row_number_of (Some T13) = 13
+row_number_of (Some T14) = 14

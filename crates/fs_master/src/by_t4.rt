@@ -5,7 +5,6 @@ ghost use Rattle.fs_master.specs.Table38 as table38;
 ghost use Rattle.fs_master.specs.Regular as regulars;
 
 use crate::Master;
-use crate::table38::{admitted, is_expected, is_old, t4};
 use scl::Response;
 
 // Whether it is one, at a master whose watchdog time is w.
@@ -14,9 +13,9 @@ pub fn is_regular(m: Master, w: u16, at: u32, f: Response) -> bool
     ensures { result ≡ regulars.is_regular m w at f }
 {
     let over = m.runs & scl::expired(at, m.MTimer, w);
-    let waits = (m.state == 2) | (m.state == 5);
-    let sound = f.signature_holds & f.port_holds & is_expected(m, f);
-    let wrong = f.all_zero | f.DCommErr | f.DTimeout | is_old(m, f);
+    let waits = matches!(m.state, 2 | 5);
+    let sound = f.signature_holds & f.port_holds & m.is_expected(f);
+    let wrong = f.all_zero | f.DCommErr | f.DTimeout | m.is_old(f);
     !over & waits & sound & !wrong
 }
 
@@ -24,5 +23,5 @@ pub fn is_regular(m: Master, w: u16, at: u32, f: Response) -> bool
 pub fn regular(m: Master, at: u32, f: Response) -> Master
     ensures { result ≡ table38.t4 (table38.admitted m f) at f.SDset }
 {
-    t4(admitted(m, f), at, f.SDset)
+    m.admitted(f).t4(at, f.SDset)
 }

@@ -29,250 +29,246 @@ pub fn first(at: u32) -> Master
     }
 }
 
-pub(crate) fn is_expected(m: Master, f: Response) -> bool
-    ensures { result ≡ table38.is_expected m f }
-{
-    f.DCount_i == scl::inverted_count(m.MCount)
-}
-
-#[tactic(auto, unfolding(crate::specs::Table38::is_old))]
-pub(crate) fn is_old(m: Master, f: Response) -> bool
-    ensures { result ≡ table38.is_old m f }
-{
-    !f.all_zero & m.previous & ((f.DCount_i as u16 == m.carried) | (f.DCount_i as u16 == m.awaited))
-}
-
-#[tactic(auto, unfolding(crate::specs::Table38::is_admitted, crate::specs::Table38::is_old))]
-pub(crate) fn is_admitted(m: Master, f: Response, old: bool) -> bool
-    requires { old ≡ table38.is_old m f }
-    ensures { result ≡ table38.is_admitted m f }
-{
-    let in2 = m.state == 2;
-    let in5 = m.state == 5;
-    let in7 = m.state == 7;
-    let restarted = m.MCount == 0;
-    let zeros = f.all_zero;
-    let expected = is_expected(m, f);
-    !zeros & (in2 & expected | in5 & !old | in7 & (!old | restarted & expected))
-}
-
-#[tactic(auto, unfolding(crate::specs::Table38::checked))]
-pub(crate) fn checked(m: Master, f: Response) -> Check
-    ensures { result ≡ table38.checked m f }
-{
-    scl::first_failed(f.signature_holds, f.port_holds, is_expected(m, f))
-}
-
 pub(crate) fn has_faults(MCommErr: bool, f: Response) -> bool
     ensures { result ≡ table38.has_faults MCommErr f }
 {
     MCommErr | f.DCommErr | f.DTimeout
 }
 
-#[tactic(auto, unfolding(crate::specs::Table38::from8))]
-fn from_check8(m: Master, faults: bool) -> Row
-    ensures { result ≡ table38.from8 m faults }
-{
-    if faults {
-        return Row::T12;
+impl Master {
+    // MTimeout: T8 from 5, T14 from 7.
+    #[tactic(auto, unfolding(crate::specs::Table38::watchdog_row))]
+    pub(crate) fn watchdog_row(self, w: u16, at: u32) -> Option<Row>
+        ensures { result ≡ table38.watchdog_row self w at }
+    {
+        if !(self.runs & scl::expired(at, self.MTimer, w)) {
+            return None;
+        }
+        match self.state {
+            5 => Some(Row::T8),
+            7 => Some(Row::T14),
+            _ => None,
+        }
     }
-    if m.ChFAck_C & m.ChFAck_C_e {
-        Row::T11
-    } else {
-        Row::T13
+
+    pub(crate) fn is_expected(self, f: Response) -> bool
+        ensures { result ≡ table38.is_expected self f }
+    {
+        f.DCount_i == scl::inverted_count(self.MCount)
+    }
+
+    #[tactic(auto, unfolding(crate::specs::Table38::is_old))]
+    pub(crate) fn is_old(self, f: Response) -> bool
+        ensures { result ≡ table38.is_old self f }
+    {
+        let count = f.DCount_i as u16;
+        !f.all_zero & self.previous & ((count == self.carried) | (count == self.awaited))
+    }
+
+    #[tactic(auto, unfolding(crate::specs::Table38::is_admitted, crate::specs::Table38::is_old))]
+    pub(crate) fn is_admitted(self, f: Response, old: bool) -> bool
+        requires { old ≡ table38.is_old self f }
+        ensures { result ≡ table38.is_admitted self f }
+    {
+        let restarted = self.MCount == 0;
+        let expected = self.is_expected(f);
+        let leads = match self.state {
+            2 => expected,
+            5 => !old,
+            7 => !old | restarted & expected,
+            _ => false,
+        };
+        !f.all_zero & leads
+    }
+
+    #[tactic(auto, unfolding(crate::specs::Table38::checked))]
+    pub(crate) fn checked(self, f: Response) -> Option<Check>
+        ensures { result ≡ table38.checked self f }
+    {
+        scl::first_failed(f.signature_holds, f.port_holds, self.is_expected(f))
+    }
+
+    #[tactic(auto, unfolding(crate::specs::Table38::from8))]
+    fn from_check8(self, faults: bool) -> Row
+        ensures { result ≡ table38.from8 self faults }
+    {
+        if faults {
+            return Row::T12;
+        }
+        if self.ChFAck_C & self.ChFAck_C_e {
+            Row::T11
+        } else {
+            Row::T13
+        }
+    }
+
+    #[tactic(auto, unfolding(crate::specs::Table38::arrival_row, crate::specs::Table38::from8))]
+    pub(crate) fn arrival_row(self, faults: bool) -> Row
+        ensures { result ≡ table38.arrival_row self faults }
+    {
+        if self.state == 7 {
+            return self.from_check8(faults);
+        }
+        if faults { Row::T7 } else { Row::T4 }
+    }
+
+    #[tactic(auto, unfolding(crate::specs::Table38::admitted))]
+    pub(crate) fn admitted(self, f: Response) -> Master
+        ensures { result ≡ table38.admitted self f }
+    {
+        Master {
+            previous: true,
+            carried: f.DCount_i as u16,
+            awaited: scl::inverted_count(self.MCount) as u16,
+            ..self
+        }
+    }
+
+    #[tactic(auto, unfolding(crate::specs::Table38::start_from))]
+    fn start_from(self, count: u8, at: u32) -> u32
+        ensures { result ≡ table38.start_from self count at }
+    {
+        if count == self.MCount { self.start } else { at }
+    }
+
+    #[tactic(auto, unfolding(crate::specs::Table38::t4))]
+    pub(crate) fn t4(self, at: u32, SDset: bool) -> Master
+        ensures { result ≡ table38.t4 self at SDset }
+    {
+        let count = scl::count_after(self.MCount);
+        Master {
+            MCount: count,
+            start: self.start_from(count, at),
+            released: !(SDset | self.setSD_C),
+            SDset_S: SDset | self.setSD_C,
+            setSD: self.setSD_C,
+            MTimer: at,
+            runs: true,
+            state: 5,
+            ..self
+        }
+    }
+
+    #[tactic(auto, unfolding(crate::specs::Table38::t7))]
+    fn t7(self, at: u32) -> Master
+        ensures { result ≡ table38.t7 self at }
+    {
+        let count = scl::count_after(self.MCount);
+        Master {
+            released: false,
+            setSD: true,
+            SDset_S: true,
+            MCount: count,
+            start: self.start_from(count, at),
+            MTimer: at,
+            runs: true,
+            state: 7,
+            ..self
+        }
+    }
+
+    #[tactic(auto, unfolding(crate::specs::Table38::t8))]
+    fn t8(self, at: u32) -> Master
+        ensures { result ≡ table38.t8 self at }
+    {
+        Master {
+            released: false,
+            setSD: true,
+            SDset_S: true,
+            MCount: 0,
+            start: self.start_from(0, at),
+            MTimer: at,
+            runs: true,
+            state: 7,
+            ..self
+        }
+    }
+
+    // As T4, with the request taken back.
+    #[tactic(auto, unfolding(crate::specs::Table38::t11, crate::specs::Table38::t4))]
+    fn t11(self, at: u32, SDset: bool) -> Master
+        ensures { result ≡ table38.t11 self at SDset }
+    {
+        Master {
+            ChFAckReq: false,
+            ChFAckReq_S: false,
+            ChFAck_C_e: false,
+            ..self.t4(at, SDset)
+        }
+    }
+
+    // As T7, with the request taken back.
+    #[tactic(auto, unfolding(crate::specs::Table38::t12, crate::specs::Table38::t7))]
+    fn t12(self, at: u32) -> Master
+        ensures { result ≡ table38.t12 self at }
+    {
+        Master {
+            ChFAckReq: false,
+            ChFAckReq_S: false,
+            ChFAck_C_e: false,
+            ..self.t7(at)
+        }
+    }
+
+    // As T7, with the request made.
+    #[tactic(auto, unfolding(crate::specs::Table38::t13, crate::specs::Table38::t7))]
+    fn t13(self, at: u32) -> Master
+        ensures { result ≡ table38.t13 self at }
+    {
+        Master {
+            ChFAckReq: true,
+            ChFAckReq_S: true,
+            ChFAck_C_e: !self.ChFAck_C | self.ChFAck_C_e,
+            ..self.t7(at)
+        }
+    }
+
+    // As T8, with the request taken back.
+    #[tactic(auto, unfolding(crate::specs::Table38::t14, crate::specs::Table38::t8))]
+    fn t14(self, at: u32) -> Master
+        ensures { result ≡ table38.t14 self at }
+    {
+        Master {
+            ChFAckReq: false,
+            ChFAckReq_S: false,
+            ChFAck_C_e: false,
+            ..self.t8(at)
+        }
+    }
+
+    #[tactic(auto, unfolding(crate::specs::Table38::acted))]
+    pub(crate) fn acted(self, row: Row, at: u32, SDset: bool) -> Master
+        ensures { result ≡ table38.acted self row at SDset }
+    {
+        match row {
+            Row::T4 => self.t4(at, SDset),
+            Row::T7 => self.t7(at),
+            Row::T8 => self.t8(at),
+            Row::T11 => self.t11(at, SDset),
+            Row::T12 => self.t12(at),
+            Row::T13 => self.t13(at),
+            Row::T14 => self.t14(at),
+        }
+    }
+
+    #[tactic(auto, unfolding(crate::specs::Table38::signalled))]
+    pub(crate) fn signalled(self, setSD_C: bool, ChFAck_C: bool) -> Master
+        ensures { result ≡ table38.signalled self setSD_C ChFAck_C }
+    {
+        Master {
+            setSD_C,
+            ChFAck_C,
+            ..self
+        }
     }
 }
 
-#[tactic(auto, unfolding(crate::specs::Table38::arrival_row, crate::specs::Table38::from8))]
-pub(crate) fn arrival_row(m: Master, faults: bool) -> Row
-    ensures { result ≡ table38.arrival_row m faults }
-{
-    if m.state == 7 {
-        return from_check8(m, faults);
-    }
-    if faults { Row::T7 } else { Row::T4 }
-}
-
-#[tactic(auto, unfolding(crate::specs::Table38::admitted))]
-pub(crate) fn admitted(m: Master, f: Response) -> Master
-    ensures { result ≡ table38.admitted m f }
-{
-    let mut n = m;
-    n.previous = true;
-    n.carried = f.DCount_i as u16;
-    n.awaited = scl::inverted_count(m.MCount) as u16;
-    n
-}
-
-#[tactic(auto, unfolding(crate::specs::Table38::start_from))]
-fn start_from(m: Master, count: u8, at: u32) -> u32
-    ensures { result ≡ table38.start_from m count at }
-{
-    if count == m.MCount { m.start } else { at }
-}
-
-#[tactic(auto, unfolding(crate::specs::Table38::t4))]
-pub(crate) fn t4(m: Master, at: u32, SDset: bool) -> Master
-    ensures { result ≡ table38.t4 m at SDset }
-{
-    let mut n = m;
-    n.MCount = scl::count_after(m.MCount);
-    n.start = start_from(m, scl::count_after(m.MCount), at);
-    n.released = !(SDset | m.setSD_C);
-    n.SDset_S = SDset | m.setSD_C;
-    n.setSD = m.setSD_C;
-    n.MTimer = at;
-    n.runs = true;
-    n.state = 5;
-    n
-}
-
-#[tactic(auto, unfolding(crate::specs::Table38::t7))]
-fn t7(m: Master, at: u32) -> Master
-    ensures { result ≡ table38.t7 m at }
-{
-    let mut n = m;
-    n.released = false;
-    n.setSD = true;
-    n.SDset_S = true;
-    n.MCount = scl::count_after(m.MCount);
-    n.start = start_from(m, scl::count_after(m.MCount), at);
-    n.MTimer = at;
-    n.runs = true;
-    n.state = 7;
-    n
-}
-
-#[tactic(auto, unfolding(crate::specs::Table38::t8))]
-pub(crate) fn t8(m: Master, at: u32) -> Master
-    ensures { result ≡ table38.t8 m at }
-{
-    let mut n = m;
-    n.released = false;
-    n.setSD = true;
-    n.SDset_S = true;
-    n.MCount = 0;
-    n.start = start_from(m, 0, at);
-    n.MTimer = at;
-    n.runs = true;
-    n.state = 7;
-    n
-}
-
-#[tactic(auto, unfolding(crate::specs::Table38::t11))]
-fn t11(m: Master, at: u32, SDset: bool) -> Master
-    ensures { result ≡ table38.t11 m at SDset }
-{
-    let mut n = m;
-    n.ChFAckReq = false;
-    n.ChFAckReq_S = false;
-    n.ChFAck_C_e = false;
-    n.MCount = scl::count_after(m.MCount);
-    n.start = start_from(m, scl::count_after(m.MCount), at);
-    n.released = !(SDset | m.setSD_C);
-    n.SDset_S = SDset | m.setSD_C;
-    n.setSD = m.setSD_C;
-    n.MTimer = at;
-    n.runs = true;
-    n.state = 5;
-    n
-}
-
-#[tactic(auto, unfolding(crate::specs::Table38::t12))]
-fn t12(m: Master, at: u32) -> Master
-    ensures { result ≡ table38.t12 m at }
-{
-    let mut n = m;
-    n.ChFAckReq = false;
-    n.ChFAckReq_S = false;
-    n.ChFAck_C_e = false;
-    n.released = false;
-    n.setSD = true;
-    n.SDset_S = true;
-    n.MCount = scl::count_after(m.MCount);
-    n.start = start_from(m, scl::count_after(m.MCount), at);
-    n.MTimer = at;
-    n.runs = true;
-    n.state = 7;
-    n
-}
-
-#[tactic(auto, unfolding(crate::specs::Table38::t13))]
-fn t13(m: Master, at: u32) -> Master
-    ensures { result ≡ table38.t13 m at }
-{
-    let mut n = m;
-    n.ChFAckReq = true;
-    n.ChFAckReq_S = true;
-    n.ChFAck_C_e = !m.ChFAck_C | m.ChFAck_C_e;
-    n.released = false;
-    n.setSD = true;
-    n.SDset_S = true;
-    n.MCount = scl::count_after(m.MCount);
-    n.start = start_from(m, scl::count_after(m.MCount), at);
-    n.MTimer = at;
-    n.runs = true;
-    n.state = 7;
-    n
-}
-
-#[tactic(auto, unfolding(crate::specs::Table38::t14))]
-pub(crate) fn t14(m: Master, at: u32) -> Master
-    ensures { result ≡ table38.t14 m at }
-{
-    let mut n = m;
-    n.ChFAckReq = false;
-    n.ChFAckReq_S = false;
-    n.ChFAck_C_e = false;
-    n.released = false;
-    n.setSD = true;
-    n.SDset_S = true;
-    n.MCount = 0;
-    n.start = start_from(m, 0, at);
-    n.MTimer = at;
-    n.runs = true;
-    n.state = 7;
-    n
-}
-
-#[tactic(auto, unfolding(crate::specs::Table38::acted))]
-pub(crate) fn acted(m: Master, row: Row, at: u32, SDset: bool) -> Master
-    ensures { result ≡ table38.acted m row at SDset }
-{
-    match row {
-        Row::Stay => m,
-        Row::T4 => t4(m, at, SDset),
-        Row::T7 => t7(m, at),
-        Row::T8 => t8(m, at),
-        Row::T11 => t11(m, at, SDset),
-        Row::T12 => t12(m, at),
-        Row::T13 => t13(m, at),
-        Row::T14 => t14(m, at),
-    }
-}
-
-#[tactic(auto, unfolding(crate::specs::Table38::signalled))]
-pub(crate) fn signalled(m: Master, setSD_C: bool, ChFAck_C: bool) -> Master
-    ensures { result ≡ table38.signalled m setSD_C ChFAck_C }
-{
-    let mut n = m;
-    n.setSD_C = setSD_C;
-    n.ChFAck_C = ChFAck_C;
-    n
-}
-
-// The number of a row outside.
-pub fn row_number(row: Row) -> u8
+// The number of a row outside, 0 for none.
+pub fn row_number(row: Option<Row>) -> u8
     ensures { result ≡ table38.row_number_of row }
 {
     match row {
-        Row::Stay => 0,
-        Row::T4 => 4,
-        Row::T7 => 7,
-        Row::T8 => 8,
-        Row::T11 => 11,
-        Row::T12 => 12,
-        Row::T13 => 13,
-        Row::T14 => 14,
+        Some(row) => row as u8,
+        None => 0,
     }
 }

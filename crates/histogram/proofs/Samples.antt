@@ -1,6 +1,7 @@
 -- The bin is 0 to 31; what one sample more does to each count over a list, and how large the counts are. Assumes nothing.
-use Rattle.std.proofs.Common.{◌≡◌, ℕ, zero, suc, ◌+◌, ◌*◌, ◌<◌, ◌≤◌, min, max, Bool, true, false, cond, eqb, List, [], ◌∷◌, ◌++◌, length, take, zero-le, suc-mul, div-lt_iff_lt-mul, arith, ne_eqb}
+use Rattle.std.proofs.Common.{◌≡◌, ℕ, zero, suc, ◌+◌, ◌*◌, ◌<◌, ◌≤◌, min, max, Bool, true, false, cond, eqb, List, [], ◌∷◌, ◌++◌, length, take, zero-le, suc-mul, div-lt_iff_lt-mul, arith}
 use mathlib.Core.List.{foldr}
+use lib.Dec.{eqb-suc-zero}
 use Rattle.histogram.specs.Samples.{bin_count, bin_of, Within, none, more, in_bin, sum_of, lowest_of, highest_of}
 
 -- "and is always 0 to 31"
@@ -8,9 +9,6 @@ pub bin_below : (w t : ℕ) → t ≤ w → bin_of w t < bin_count
 bin_below w t h = let p : 0 < w + 1 = omega arith in (div-lt_iff_lt-mul p).1 (omega arith)
 
 -- ---- one sample more
-not_none : (samples : List ℕ) → eqb (suc (length samples)) 0 ≡ false
-not_none samples = ne_eqb (suc (length samples)) 0 (λ e. omega arith)
-
 module _ (t : ℕ) where
   pub in_bin_more : (w i : ℕ) (samples : List ℕ) → in_bin w i (samples ++ t ∷ []) ≡ in_bin w i samples + cond (eqb (bin_of w t) i) 1 0
   unfolding in_bin
@@ -27,7 +25,7 @@ module _ (t : ℕ) where
 
   pub lowest_more : (samples : List ℕ) → lowest_of (samples ++ t ∷ []) ≡ min (cond (eqb (length samples) 0) t (lowest_of samples)) t
   lowest_more [] = omega arith
-  lowest_more (x ∷ samples) = rw (not_none samples) (least x samples)
+  lowest_more (x ∷ samples) = rw (eqb-suc-zero (length samples)) (least x samples)
 
   greatest : (samples : List ℕ) → highest_of (samples ++ t ∷ []) ≡ max (highest_of samples) t
   greatest [] = omega arith
@@ -35,7 +33,7 @@ module _ (t : ℕ) where
 
   pub highest_more : (samples : List ℕ) → highest_of (samples ++ t ∷ []) ≡ max (cond (eqb (length samples) 0) t (highest_of samples)) t
   highest_more [] = omega arith
-  highest_more (x ∷ samples) = rw (not_none samples) (greatest (x ∷ samples))
+  highest_more (x ∷ samples) = rw (eqb-suc-zero (length samples)) (greatest (x ∷ samples))
 
   pub within_more : {w : ℕ} {samples : List ℕ} → Within w samples → t ≤ w → Within w (samples ++ t ∷ [])
   within_more none h = more h none

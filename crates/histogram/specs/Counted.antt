@@ -1,11 +1,10 @@
 -- Method: each call on a histogram, for every histogram, also for one that no list of samples gives, whose counts wrap. What is meant is in Samples.antt.
 -- Assumes nothing.
-use Rattle.std.specs.Prelude.{ℕ, ◌+◌, ◌%◌, ◌^◌, min, max, Bool, true, false, cond, List, replicate, ◌==◌, slice_index, slice_set}
+use Rattle.std.specs.Prelude.{ℕ, ◌+◌, ◌%◌, ◌^◌, min, max, Bool, cond, List, replicate, ◌==◌, slice_index, slice_set, Option, None, Some}
 use mathlib.Core.List.{foldl}
 use Rattle.histogram.specs.Samples.{bin_count, bin_of, limit}
 use Rattle.histogram.specs.declared.Histogram.{Histogram}
 use Rattle.histogram.specs.declared.Totals.{Totals}
-use Rattle.histogram.specs.declared.Sampled.{Sampled}
 
 -- "When it reaches 4,294,967,295 .. a frozen mark is set"
 unfoldable pub frozen_of : Histogram → Bool
@@ -36,19 +35,20 @@ added a t =
       highest = max (so_far a t a.highest) t;
     }
 
-abbrev pub raised_if : Bool → List ℕ → ℕ → List ℕ
-raised_if counted bins i = cond counted (slice_set bins i ((slice_index bins i + 1) % 2 ^ 32)) bins
+abbrev pub raised_if : List ℕ → Option ℕ → List ℕ
+raised_if bins None = bins
+raised_if bins (Some i) = slice_set bins i ((slice_index bins i + 1) % 2 ^ 32)
 
 unfoldable pub with_sample : Histogram → ℕ → ℕ → Histogram
-with_sample h w t = with_bins (added (totals_of h) t) (raised_if true h.bins (bin_of w t))
+with_sample h w t = with_bins (added (totals_of h) t) (raised_if h.bins (Some (bin_of w t)))
 
 -- "the port's bins, total and trend stay as they are"
 unfoldable pub counted_of : Histogram → ℕ → ℕ → Histogram
 counted_of h w t = cond (frozen_of h) h (with_sample h w t)
 
--- the same of the totals alone, with whether a bin is raised
-unfoldable pub totalled_of : Totals → ℕ → Sampled
-totalled_of a t = cond (a.total == limit) (record { totals = a; counted = false }) (record { totals = added a t; counted = true })
+-- the same of the totals alone: none where the sample is not counted
+unfoldable pub totalled_of : Totals → ℕ → Option Totals
+totalled_of a t = cond (a.total == limit) None (Some (added a t))
 
 -- samples counted one by one, the first first, from a new histogram
 abbrev pub counted_all : ℕ → List ℕ → Histogram

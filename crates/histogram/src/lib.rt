@@ -1,7 +1,7 @@
 // The response histogram of a port and its trend point (document 01, "The histogram and the trend").
 #![tactic(auto)]
 
-ghost use Rattle.std.specs.Prelude.{◌≡◌, min, max, if◌then◌else◌, ◌==◌};
+ghost use Rattle.std.specs.Prelude.{◌≡◌, if◌then◌else◌, ◌==◌};
 ghost use Rattle.histogram.specs.Samples.{bin_of, limit};
 ghost use Rattle.histogram.specs.Counted.{frozen_of, cleared_of, totals_of, with_bins, raised_if, totalled_of, counted_of};
 ghost use Rattle.histogram.specs.Trends.{mean_of, point_of, trend_of};
@@ -14,6 +14,7 @@ pub const BIN_COUNT: usize = 32;
 pub const LIMIT: u32 = 4294967295;
 
 // Samples are in ms. Where there is none, the lowest and the highest are 0.
+// C sees this layout (`whakelouna_counted`), so the fields of `Totals` stand here one by one.
 #[repr(C)]
 #[derive(Clone, Copy)]
 pub struct Histogram {
@@ -32,13 +33,6 @@ pub struct Totals {
     pub total: u32,
     pub lowest: u16,
     pub highest: u16,
-}
-
-// The totals after a sample, and whether it was counted.
-#[derive(Clone, Copy)]
-pub struct Sampled {
-    pub totals: Totals,
-    pub counted: bool,
 }
 
 // The mean, and the lowest and the highest sample, in ms.
@@ -61,7 +55,7 @@ pub struct Trend {
 pub fn bin(w: u16, t: u32) -> usize
     ensures { result ≡ bin_of w t }
 {
-    (t as usize) * BIN_COUNT / ((w as usize) + 1)
+    (t as usize) * BIN_COUNT / (usize::from(w) + 1)
 }
 
 // Whether a total has reached the limit.
@@ -92,30 +86,16 @@ pub fn cleared() -> Histogram
     }
 }
 
-// One more in bin i where a sample was counted; past the last bin nothing changes.
-pub fn raised(bins: [u32; BIN_COUNT], counted: bool, i: usize) -> [u32; BIN_COUNT]
-    ensures { result ≡ raised_if counted bins i }
+// One more in the bin that a sample was counted in, if one was; past the last bin nothing changes.
+pub fn raised(mut bins: [u32; BIN_COUNT], bin: Option<usize>) -> [u32; BIN_COUNT]
+    ensures { result ≡ raised_if bins bin }
 {
-    if counted {
+    if let Some(i) = bin {
         if i < BIN_COUNT {
-            let mut later = bins;
-            later[i] = std::num::wrapping_add_u32(later[i], 1);
-            return later;
+            bins[i] = bins[i].wrapping_add(1);
         }
     }
     bins
-}
-
-fn lower(a: u16, b: u16) -> u16
-    ensures { result ≡ min a b }
-{
-    if a < b { a } else { b }
-}
-
-fn higher(a: u16, b: u16) -> u16
-    ensures { result ≡ max a b }
-{
-    if a < b { b } else { a }
 }
 
 // The first sample t is the lowest and the highest so far.
@@ -125,17 +105,20 @@ fn so_far(first: bool, t: u16, end: u16) -> u16
     if first { t } else { end }
 }
 
-pub fn totals_of(h: Histogram) -> Totals
-    ensures { result ≡ totals_of h }
-{
-    Totals {
-        total: h.total,
-        sum: h.sum,
-        lowest: h.lowest,
-        highest: h.highest,
+impl From<Histogram> for Totals {
+    ghost from_gives = { λ h totals. totals ≡ totals_of h };
+
+    fn from(h: Histogram) -> Totals {
+        Totals {
+            sum: h.sum,
+            total: h.total,
+            lowest: h.lowest,
+            highest: h.highest,
+        }
     }
 }
 
+// The other way round. It takes two values, so that a `From`, over a pair, would read no plainer.
 pub fn with_bins(totals: Totals, bins: [u32; BIN_COUNT]) -> Histogram
     ensures { result ≡ with_bins totals bins }
 {
@@ -148,39 +131,31 @@ pub fn with_bins(totals: Totals, bins: [u32; BIN_COUNT]) -> Histogram
     }
 }
 
-// One more sample t in the totals. Where the limit is reached they stay as they are, and it is not counted.
+// The totals with one more sample t. Where the limit is reached it is not counted.
 #[tactic(auto, unfolding(crate::specs::Samples::limit, crate::specs::Counted::totalled_of))]
-pub fn totalled(totals: Totals, t: u16) -> Sampled
+pub fn totalled(totals: Totals, t: u16) -> Option<Totals>
     ensures { result ≡ totalled_of totals t }
 {
     if reached(totals.total) {
-        Sampled {
-            totals,
-            counted: false,
-        }
-    } else {
-        let first = totals.total == 0;
-        Sampled {
-            totals: Totals {
-                total: totals.total + 1,
-                sum: std::num::wrapping_add_u64(totals.sum, t as u64),
-                lowest: lower(so_far(first, t, totals.lowest), t),
-                highest: higher(so_far(first, t, totals.highest), t),
-            },
-            counted: true,
-        }
+        return None;
     }
+    let first = totals.total == 0;
+    Some(Totals {
+        sum: totals.sum.wrapping_add(u64::from(t)),
+        total: totals.total + 1,
+        lowest: so_far(first, t, totals.lowest).min(t),
+        highest: so_far(first, t, totals.highest).max(t),
+    })
 }
 
 // One more sample t. A frozen histogram stays as it is.
 pub fn counted(h: Histogram, w: u16, t: u16) -> Histogram
     ensures { result ≡ counted_of h w t }
 {
-    let after = totalled(totals_of(h), t);
-    let totals = after.totals;
-    let old = h.bins;
-    let bins = raised(old, after.counted, bin(w, t as u32));
-    with_bins(totals, bins)
+    match totalled(Totals::from(h), t) {
+        Some(totals) => with_bins(totals, raised(h.bins, Some(bin(w, u32::from(t))))),
+        None => h,
+    }
 }
 
 // Two conversions, which lose nothing where the numbers are those of samples (proofs/Trends.antt), and one division.
@@ -196,9 +171,9 @@ fn point(h: Histogram) -> TrendPoint
     ensures { result ≡ point_of h }
 {
     TrendPoint {
-        mean: mean(h.sum, h.total as u64),
-        lowest: h.lowest as f32,
-        highest: h.highest as f32,
+        mean: mean(h.sum, u64::from(h.total)),
+        lowest: f32::from(h.lowest),
+        highest: f32::from(h.highest),
     }
 }
 

@@ -1,16 +1,13 @@
 -- Texts written one behind the other are one text. Assumes nothing.
-use Prim.Native.Nat.{ℕ, zero, suc, ◌+◌, ◌-◌, ◌≤◌}
-use mathlib.Core.Path.{◌≡◌, refl, sym, ◌∙◌}
+use Prim.Native.Nat.{ℕ, ◌+◌, ◌-◌, ◌≤◌}
+use mathlib.Core.Path.{◌≡◌, refl, sym, ap, ◌∙◌}
 use mathlib.Core.List.{List, [], ◌++◌, append_assoc, append-nil}
 use native.Mathlib.Omega.{arith}
-use native.Mathlib.Numerals.{unary_clauses}
 use lib.ListN.{length, take, drop, replicate, length-append, length-drop, take-append-drop, drop_of_length-le}
 use lib.Seq.{drop-drop, take-length, take_all, take_at, drop_at, take-append_seam, length-take-le}
 use borrow.Rule.Slice.PartMut.{mid_of, put_mid}
-use Rattle.io.specs.Counts.{IsPrefixLen}
-use Rattle.lines.specs.declared.Line.{Line}
-use Rattle.lines.specs.declared.PortLine.{PortLine}
-use Rattle.lines.specs.Text.{Written, line_of, port_line_of, line_room, port_room}
+use Rattle.std.proofs.lemmas.List.{drop-replicate}
+use Rattle.lines.specs.Text.{Written, line_of}
 
 pub none : (b : List ℕ) (at : ℕ) → Written b at [] at b
 none b at = record { end = omega arith; front = sym (append-nil (take at b)); behind = refl }
@@ -44,24 +41,34 @@ copied b text ys at h e =
     let l : length (take at b ++ text) ≡ at + length text = simp (length-append, length-take-le at b (omega arith)) in
     record { end = refl; front = rw same (take_at _ _ _ l); behind = rw same (drop_at (take at b ++ text) _ _ l) }
 
-drop-replicate : (n m : ℕ) → drop n (replicate {A = ℕ} m 0) ≡ replicate (m - n) 0
-drop-replicate zero m = simp unary_clauses
-drop-replicate (suc n) zero = let e : 0 - suc n ≡ 0 = omega arith in rw e
-drop-replicate (suc n) (suc m) = simp unary_clauses (drop-replicate n m)
-
--- from the front of zeros on
-from_zeros : (m : ℕ) {b t : List ℕ} {r : ℕ} → Written (replicate m 0) 0 t r b → (b ≡ t ++ replicate (m - length t) 0) × (r ≡ length t)
-from_zeros m {b} {t} w = (from_front w ∙ rw (drop-replicate (length t) m), omega (arith, w.end))
-
-counts : (t z : List ℕ) → IsPrefixLen (length t) (t ++ z)
-counts t z = (simp length-append (omega arith), rw take-append_seam)
-
 -- what a line's length counts is its text
-pub line_text : (t : List ℕ) → (take (line_of t).length (line_of t).octets ≡ t) × (take (port_line_of t).length (port_line_of t).octets ≡ t)
-line_text t = (rw take-append_seam, rw take-append_seam)
+pub line_text : (room : ℕ) (t : List ℕ) → take (length t) (line_of room t) ≡ t
+line_text room t = rw take-append_seam
 
-pub line_of_lem : {b t : List ℕ} {r : ℕ} → Written (replicate line_room 0) 0 t r b → (◌≡◌ {A = Line} (record { octets = b; length = r }) (line_of t)) × IsPrefixLen r b
-line_of_lem {b} {t} w = let f = from_zeros line_room w in (simp (f.0, f.1), simp (f.0, f.1) (counts t _))
+-- a text pushed behind the text v that stands in a room, as a store of its octets
+module _ (room n : ℕ) {o v t y : List ℕ} (view : take n o ≡ v) (within : n ≤ room) (all : length o ≡ room) (zeros : o ≡ line_of room (take n o))
+    (fits : length v + length t ≤ room) (stored : y ≡ t) where
+  abbrev after : List ℕ
+  after = put_mid n (n + length t - n) o y
 
-pub port_line_of_lem : {b t : List ℕ} {r : ℕ} → Written (replicate port_room 0) 0 t r b → (◌≡◌ {A = PortLine} (record { octets = b; length = r }) (port_line_of t)) × IsPrefixLen r b
-port_line_of_lem {b} {t} w = let f = from_zeros port_room w in (simp (f.0, f.1), simp (f.0, f.1) (counts t _))
+  size : length v ≡ n
+  size = ap length (sym view) ∙ length-take-le n o (omega arith)
+
+  post : drop (length t) (drop n o) ≡ replicate (room - length (v ++ t)) 0
+  post =
+      let left : room - length v - length t ≡ room - length (v ++ t) = omega (arith, length-append v t) in
+      let behind : drop n o ≡ replicate (room - length v) 0 = ap (λ (x : List ℕ). drop n x) (rw view at zeros) ∙ drop_at v (replicate (room - length v) 0) n size in
+      ap (λ (x : List ℕ). drop (length t) x) behind ∙ drop-replicate (length t) (room - length v) 0 ∙ ap (λ (i : ℕ). replicate i 0) left
+
+  line_after : after ≡ line_of room (v ++ t)
+  line_after =
+      let m : n + length t - n ≡ length t = omega arith in
+      rw (stored, m, view, post) (sym (append_assoc v t (replicate (room - length (v ++ t)) 0)))
+
+  pub pushed : take (n + length t) after ≡ v ++ t
+  pushed =
+      ap (λ (x : List ℕ). take (n + length t) x) line_after
+      ∙ take_at (v ++ t) (replicate (room - length (v ++ t)) 0) (n + length t) (omega (arith, size, length-append v t))
+
+  pub kept : (n + length t ≤ room) × (after ≡ line_of room (take (n + length t) after))
+  kept = (omega (arith, size), line_after ∙ ap (λ (x : List ℕ). line_of room x) (sym pushed))

@@ -1,7 +1,5 @@
 -- 01, "The session program": the lines that are printed, in ASCII. Assumes nothing.
 use Rattle.std.specs.Prelude.{ℕ, zero, suc, ◌+◌, ◌-◌, ◌/◌, ◌%◌, ◌≡◌, cond, List, [], ◌∷◌, ◌++◌, ltb, length, take, drop, replicate}
-use Rattle.lines.specs.declared.Line.{Line}
-use Rattle.lines.specs.declared.PortLine.{PortLine}
 
 -- the room that is kept for a line, and for the line of a port
 abbrev pub line_room : ℕ
@@ -10,12 +8,9 @@ line_room = 64
 abbrev pub port_room : ℕ
 port_room = 128
 
--- a text in that room
-abbrev pub line_of : List ℕ → Line
-line_of text = record { octets = text ++ replicate (line_room - length text) 0; length = length text }
-
-abbrev pub port_line_of : List ℕ → PortLine
-port_line_of text = record { octets = text ++ replicate (port_room - length text) 0; length = length text }
+-- a text in a room of so many octets: zeros behind it
+abbrev pub line_of : ℕ → List ℕ → List ℕ
+line_of room text = text ++ replicate (room - length text) 0
 
 -- the last decimal digit of n
 abbrev pub last_digit : ℕ → List ℕ

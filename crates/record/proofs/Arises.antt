@@ -3,7 +3,9 @@ use Prim.Native.Nat.{ℕ}
 use mathlib.Core.Path.{◌≡◌, refl}
 use mathlib.Core.List.{List, [], ◌∷◌}
 use lib.ListN.{replicate}
-use Rattle.record.specs.declared.Record.TheVariants.{Whole, Bad, Cut, End}
+use Rattle.std.specs.Prelude.{Ok, Err}
+use Rattle.record.specs.declared.Kind.TheVariants.{Clock, Operator}
+use Rattle.record.specs.declared.NoRecord.TheVariants.{Bad, Cut, End}
 use Rattle.record.specs.Format.{octets_of, part, bad, whole, form, record_at}
 
 -- a record to port 1 at 256 ms
@@ -42,15 +44,15 @@ pub each_cut : (form (0x53 ∷ []) ≡ part) × (form (octets 0x4C 1 1 []) ≡ p
 each_cut = (refl, refl)
 
 pub each_record :
-    (record_at (0 ∷ octets 0x4C 3 0 []) 1 ≡ Whole 3 1 256 10 10)
-    × (record_at (octets 0x4C 0 0 []) 0 ≡ Bad)
-    × (record_at (octets 0x4C 2 1 []) 0 ≡ Cut)
-    × (record_at (octets 0x4C 3 0 []) 9 ≡ End)
+    (record_at (0 ∷ octets 0x4C 3 0 []) 1 ≡ Ok (record { kind = Clock; port = 1; clock = 256; start = 10; next = 10 }))
+    × (record_at (octets 0x4C 0 0 []) 0 ≡ Err Bad)
+    × (record_at (octets 0x4C 2 1 []) 0 ≡ Err Cut)
+    × (record_at (octets 0x4C 3 0 []) 9 ≡ Err End)
 each_record = (refl, refl, refl, refl)
 
 -- "port (1), clock (4, most significant first), length (1), that many octets": an operator record to port 8 at 0x01020304 ms
 abbrev operator : List ℕ
 operator = 0x53 ∷ 0x4C ∷ 4 ∷ 8 ∷ 1 ∷ 2 ∷ 3 ∷ 4 ∷ 1 ∷ 3 ∷ 0x53 ∷ []
 
-pub each_place : (record_at operator 0 ≡ Whole 4 8 0x01020304 9 10) × (octets_of operator ≡ 3 ∷ [])
+pub each_place : (record_at operator 0 ≡ Ok (record { kind = Operator; port = 8; clock = 0x01020304; start = 9; next = 10 })) × (octets_of operator ≡ 3 ∷ [])
 each_place = (refl, refl)

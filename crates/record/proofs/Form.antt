@@ -1,20 +1,45 @@
 -- What the form of a record says of its octets, and that more octets behind a record, or behind what is none, leave it so. Assumes nothing.
-use Prim.Native.Nat.{ℕ, ◌+◌, ◌≤◌, ◌<◌}
+use Prim.Native.Nat.{ℕ, ◌+◌, ◌*◌, ◌≤◌, ◌<◌}
 use mathlib.Core.Path.{◌≡◌, refl, sym, ◌∙◌}
-use mathlib.Core.Bool.{Bool, true, false, cond, not}
+use mathlib.Core.Bool.{Bool, true, false, cond, not, ◌&&◌}
 use mathlib.Core.List.{List, ◌++◌}
 use mathlib.Core.Logic.{⊎_elim, inl, inr, ◌⊎◌}
-use borrow.Author.Tests.{eqb-true, ltb-true, ltb-false, ne_eqb, le-ltb, not-true, not-false}
+use borrow.Author.Tests.{eqb-true, eqb-false, ltb-true, ltb-false, ne_eqb, le-ltb, not-true, not-false}
 use lib.Dec.{eqb, ltb}
 use lib.ListN.{length, length-append, get_or-append}
 use native.Mathlib.Omega.{arith}
 use Rattle.scl.proofs.Cases.{and_right}
-use Rattle.record.specs.Format.{at, kind_of, port_of, clock_of, length_of, size_of, most_octets, head_octets, record_mark_holds, length_in, kinds, head_holds, octet_holds, Form, nothing, part, bad, whole, form_by, form, record_by}
-use Rattle.record.specs.declared.Record.TheVariants.{Whole, Bad, Cut, End}
+use Rattle.record.specs.declared.Record.{Record}
+use Rattle.record.specs.declared.NoRecord.TheVariants.{Bad, Cut, End}
+use Rattle.std.specs.Prelude.{Ok, Err}
+use Rattle.record.specs.Format.{number_of, kind_named, at, kind_of, port_of, clock_of, length_of, size_of, most_octets, head_octets, record_mark_holds, length_in, kinds, head_holds, octet_holds, Form, nothing, part, bad, whole, form_by, form, record_by}
+
+mark_by : (a b : ℕ) (x y : Bool) → eqb a 0x53 ≡ x → eqb b 0x4C ≡ y → a < 256 → b < 256 → eqb (a * 256 + b) 0x534C ≡ (eqb a 0x53 && eqb b 0x4C)
+mark_by a b true true p q h k =
+    let e : a * 256 + b ≡ 0x534C = omega (arith, eqb-true a 0x53 p, eqb-true b 0x4C q) in
+    rw (p, q, e) refl
+mark_by a b true false p q h k = rw (p, q) (ne_eqb (a * 256 + b) 0x534C (λ e. eqb-false b 0x4C q (omega (arith, e, eqb-true a 0x53 p))))
+mark_by a b false y p q h k = rw p (ne_eqb (a * 256 + b) 0x534C (λ e. eqb-false a 0x53 p (omega (arith, e))))
+
+-- the mark's two octets as one number
+pub mark_is : (a b : ℕ) → a < 256 → b < 256 → eqb (a * 256 + b) 0x534C ≡ (eqb a 0x53 && eqb b 0x4C)
+mark_is a b = mark_by a b _ _ refl refl
 
 -- a record of kind 4 whose head holds has the length 1
 pub four : (s : List ℕ) → head_holds s ≡ true → kind_of s ≡ 4 → length_of s ≡ 1
 four s h k = eqb-true (length_of s) 1 (and_right (record_mark_holds s) (eqb (length_of s) 1) (rw k at h))
+
+numbered_by : (k m : ℕ) (a b c d : Bool) → eqb k 1 ≡ a → eqb k 2 ≡ b → eqb k 3 ≡ c → eqb k 4 ≡ d → length_in kinds k m ≡ true → number_of (kind_named k) ≡ k
+numbered_by k m true b c d p q r s h = rw p (sym (eqb-true k 1 p))
+numbered_by k m false true c d p q r s h = rw (p, q) (sym (eqb-true k 2 q))
+numbered_by k m false false true d p q r s h = rw (p, q, r) (sym (eqb-true k 3 r))
+numbered_by k m false false false true p q r s h = rw (p, q, r) (sym (eqb-true k 4 s))
+numbered_by k m false false false false p q r s h = let z : false ≡ true = rw (p, q, r, s) at h in cc z
+
+-- the kind of a record whose head holds has its number
+pub numbered : (s : List ℕ) → head_holds s ≡ true → number_of (kind_named (kind_of s)) ≡ kind_of s
+numbered s h =
+    numbered_by (kind_of s) (length_of s) _ _ _ _ refl refl refl refl (and_right (record_mark_holds s) (length_in kinds (kind_of s) (length_of s)) h)
 
 others_by : (a b c e f z : Bool)
     → cond a true (cond b true (cond c e (cond false f false))) ≡ true → cond a true (cond b true (cond c true (cond false z false))) ≡ true
@@ -40,33 +65,33 @@ on {r} e h = sym e ∙ not-false r h
 -- ---- What stands at a position
 
 -- what an answer says of the form that it is made from
-pub record Found (f : Form) (s : List ℕ) (p k q c b n : ℕ) : Type 0 where
+pub record Found (f : Form) (s : List ℕ) (p : ℕ) (r : Record) : Type 0 where
   pub is_whole_lem : f ≡ whole
-  pub kind : k ≡ kind_of s
-  pub port : q ≡ port_of s
-  pub clock : c ≡ clock_of s
-  pub start : b ≡ p + head_octets
-  pub next : n ≡ p + size_of s
+  pub kind : r.kind ≡ kind_named (kind_of s)
+  pub port : r.port ≡ port_of s
+  pub clock : r.clock ≡ clock_of s
+  pub start : r.start ≡ p + head_octets
+  pub next : r.next ≡ p + size_of s
 
-pub whole_found : (f : Form) (s : List ℕ) (p k q c b n : ℕ) → record_by f s p ≡ Whole k q c b n → Found f s p k q c b n
-whole_found nothing s p k q c b n e = record { is_whole_lem = cc; kind = cc; port = cc; clock = cc; start = cc; next = cc }
-whole_found part s p k q c b n e = record { is_whole_lem = cc; kind = cc; port = cc; clock = cc; start = cc; next = cc }
-whole_found bad s p k q c b n e = record { is_whole_lem = cc; kind = cc; port = cc; clock = cc; start = cc; next = cc }
-whole_found whole s p k q c b n e = record { is_whole_lem = refl; kind = cc; port = cc; clock = cc; start = cc; next = cc }
+pub whole_found : (f : Form) (s : List ℕ) (p : ℕ) (r : Record) → record_by f s p ≡ Ok r → Found f s p r
+whole_found nothing s p r e = record { is_whole_lem = cc; kind = cc; port = cc; clock = cc; start = cc; next = cc }
+whole_found part s p r e = record { is_whole_lem = cc; kind = cc; port = cc; clock = cc; start = cc; next = cc }
+whole_found bad s p r e = record { is_whole_lem = cc; kind = cc; port = cc; clock = cc; start = cc; next = cc }
+whole_found whole s p r e = record { is_whole_lem = refl; kind = cc; port = cc; clock = cc; start = cc; next = cc }
 
-pub bad_found : (f : Form) (s : List ℕ) (p : ℕ) → record_by f s p ≡ Bad → f ≡ bad
+pub bad_found : (f : Form) (s : List ℕ) (p : ℕ) → record_by f s p ≡ Err Bad → f ≡ bad
 bad_found nothing s p e = cc
 bad_found part s p e = cc
 bad_found bad s p e = refl
 bad_found whole s p e = cc
 
-pub end_found : (f : Form) (s : List ℕ) (p : ℕ) → record_by f s p ≡ End → f ≡ nothing
+pub end_found : (f : Form) (s : List ℕ) (p : ℕ) → record_by f s p ≡ Err End → f ≡ nothing
 end_found nothing s p e = refl
 end_found part s p e = cc
 end_found bad s p e = cc
 end_found whole s p e = cc
 
-pub cut_found : (f : Form) (s : List ℕ) (p : ℕ) → record_by f s p ≡ Cut → f ≡ part
+pub cut_found : (f : Form) (s : List ℕ) (p : ℕ) → record_by f s p ≡ Err Cut → f ≡ part
 cut_found nothing s p e = cc
 cut_found part s p e = refl
 cut_found bad s p e = cc

@@ -1,7 +1,10 @@
 -- 01, "The session program": the form of a record, and what stands at a position of a session. Assumes nothing.
-use Rattle.std.specs.Prelude.{ℕ, ◌+◌, ◌*◌, Bool, true, false, cond, ◌&&◌, not, List, [], ◌∷◌, length, get_or, take, drop, ltb, eqb}
+use Rattle.std.specs.Prelude.{ℕ, ◌+◌, ◌*◌, Bool, true, false, cond, ◌&&◌, not, List, [], ◌∷◌, length, get_or, take, drop, ltb, eqb, Result, Ok, Err}
+use Rattle.record.specs.declared.Kind.{Kind}
+use Rattle.record.specs.declared.Kind.TheVariants.{Block, Response, Clock, Operator}
 use Rattle.record.specs.declared.Record.{Record}
-use Rattle.record.specs.declared.Record.TheVariants.{Whole, Bad, Cut, End}
+use Rattle.record.specs.declared.NoRecord.{NoRecord}
+use Rattle.record.specs.declared.NoRecord.TheVariants.{Bad, Cut, End}
 
 -- "mark 0x53 0x4C, kind (1 octet), port (1), clock (4, most significant first), length (1), that many octets"
 abbrev pub at : List ℕ → ℕ → ℕ
@@ -37,8 +40,8 @@ abbrev pub octets_of : List ℕ → List ℕ
 octets_of s = take (length_of s) (drop head_octets s)
 
 -- a kind: its number, the lengths that it takes, and what holds of its first octet
-pub data Kind : Type 0 where
-  kind : (number : ℕ) (length octet : ℕ → Bool) → Kind
+pub data KindRow : Type 0 where
+  kind : (number : ℕ) (length octet : ℕ → Bool) → KindRow
 
 abbrev pub any : ℕ → Bool
 any x = true
@@ -51,21 +54,40 @@ abbrev pub operator_bits : ℕ → Bool
 operator_bits x = ltb x 4
 
 -- 1 parameters, 2 SPDU received as FS-Master, 3 clock, 4 operator
-abbrev pub kinds : List Kind
+abbrev pub kinds : List KindRow
 kinds = kind 1 any any ∷ kind 2 any any ∷ kind 3 (only 0) any ∷ kind 4 (only 1) operator_bits ∷ []
 
+-- the number of a kind
+abbrev pub number_of : Kind → ℕ
+number_of Block = 1
+number_of Response = 2
+number_of Clock = 3
+number_of Operator = 4
+
+-- the kind of a number that is one of these
+abbrev pub kind_named : ℕ → Kind
+kind_named n = cond (eqb n 1) Block (cond (eqb n 2) Response (cond (eqb n 3) Clock Operator))
+
+-- of any number: no other is a kind
+abbrev pub kind_read : ℕ → Result Kind NoRecord
+kind_read n = cond (eqb n 1) (Ok Block) (cond (eqb n 2) (Ok Response) (cond (eqb n 3) (Ok Clock) (cond (eqb n 4) (Ok Operator) (Err Bad))))
+
 -- the length n is one that the kind k takes; no row is a bad kind
-abbrev pub length_in : List Kind → ℕ → ℕ → Bool
+abbrev pub length_in : List KindRow → ℕ → ℕ → Bool
 length_in [] k n = false
 length_in (kind number length octet ∷ rows) k n = cond (eqb k number) (length n) (length_in rows k n)
 
 -- the same of the first octet x
-abbrev pub octet_in : List Kind → ℕ → ℕ → Bool
+abbrev pub octet_in : List KindRow → ℕ → ℕ → Bool
 octet_in [] k x = false
 octet_in (kind number length octet ∷ rows) k x = cond (eqb k number) (octet x) (octet_in rows k x)
 
 abbrev pub head_holds : List ℕ → Bool
 head_holds s = record_mark_holds s && length_in kinds (kind_of s) (length_of s)
+
+-- the kind of a record whose head holds
+abbrev pub head_read : List ℕ → Result Kind NoRecord
+head_read s = cond (head_holds s) (Ok (kind_named (kind_of s))) (Err Bad)
 
 abbrev pub octet_holds : List ℕ → Bool
 octet_holds s = octet_in kinds (kind_of s) (at s head_octets)
@@ -86,12 +108,14 @@ abbrev pub form : List ℕ → Form
 form s = form_by (eqb (length s) 0) (ltb (length s) head_octets) (head_holds s) (ltb (length s) (size_of s)) (octet_holds s)
 
 -- the record that s begins with, s standing at position p: a whole one's octets are from p + 9 to the position past it
-abbrev pub record_by : Form → List ℕ → ℕ → Record
-record_by nothing s p = End
-record_by part s p = Cut
-record_by bad s p = Bad
-record_by whole s p = Whole (kind_of s) (port_of s) (clock_of s) (p + head_octets) (p + size_of s)
+abbrev pub record_by : Form → List ℕ → ℕ → Result Record NoRecord
+record_by nothing s p = Err End
+record_by part s p = Err Cut
+record_by bad s p = Err Bad
+record_by whole s p =
+    Ok
+    (record { kind = kind_named (kind_of s); port = port_of s; clock = clock_of s; start = p + head_octets; next = p + size_of s })
 
 -- what stands at a position of s
-abbrev pub record_at : List ℕ → ℕ → Record
+abbrev pub record_at : List ℕ → ℕ → Result Record NoRecord
 record_at s p = record_by (form (drop p s)) (drop p s) p

@@ -14,7 +14,7 @@ use Rattle.scl.specs.declared.Happening.TheVariants as happening
 use Rattle.scl.specs.declared.Mark.TheVariants.{Fresh}
 use Rattle.scl.specs.declared.Response.{Response}
 use Rattle.fs_master.specs.Table38.{watchdog_row, is_old, is_admitted, checked, from8, arrival_row, admitted, start_from, t4, t8, t11, t12, t13, t14, acted, signalled}
-use Rattle.fs_master.specs.Calls.{watched, quiet, arrived, received, clocked, operated, step_of}
+use Rattle.fs_master.specs.Calls.{watched, watched_by, quiet, arrived, received, clocked, operated, step_of}
 use Rattle.fs_master.specs.History.{master_after, watched_in, passes_by, signals, signals_after, previous_by, last_admitted, last_admitted_at, fault, None, Asked, answered_by, admitted_by, faulty_by}
 use Rattle.samples.specs.Samples.{releases_by, sent_since, passed_for_count, time_of, is_sample, samples}
 use Rattle.samples.proofs.Samples.{sample_fresh, sample_since, sample_acknowledged, repeated}
@@ -102,7 +102,7 @@ abbrev course : List Happening
 course = happenings table
 
 pub course_arises : (seen block course ≡ table) × (samples block 100 course ≡ 100 ∷ 10 ∷ 10 ∷ [])
-unfolding seen samples is_sample releases_by time_of sent_since passed_for_count master_after watched_in passes_by signals signals_after step_of clocked operated quiet received arrived watched acted t4 t8 t11 t12 t13 t14 signalled admitted is_old is_admitted checked from8 arrival_row watchdog_row start_from elapsed_of
+unfolding seen samples is_sample releases_by time_of sent_since passed_for_count master_after watched_in passes_by signals signals_after step_of clocked operated quiet received arrived watched watched_by acted t4 t8 t11 t12 t13 t14 signalled admitted is_old is_admitted checked from8 arrival_row watchdog_row start_from elapsed_of
 course_arises = (refl, refl)
 
 -- ---- Q2.3: a port that is always late. The block's reading is 0, W is 100, and every answer comes 102 ms after its count was sent. By then the watchdog
@@ -132,7 +132,7 @@ abbrev late : List Happening
 late = happenings late_table
 
 pub late_arises : (seen 0 late ≡ late_table) × ((samples 0 100 late ≡ []) × (fault 0 100 late ≡ Asked))
-unfolding seen samples is_sample releases_by time_of sent_since passed_for_count master_after watched_in passes_by signals signals_after fault admitted_by faulty_by answered_by step_of clocked operated quiet received arrived watched acted t4 t8 t11 t12 t13 t14 signalled admitted is_old is_admitted checked from8 arrival_row watchdog_row start_from elapsed_of
+unfolding seen samples is_sample releases_by time_of sent_since passed_for_count master_after watched_in passes_by signals signals_after fault admitted_by faulty_by answered_by step_of clocked operated quiet received arrived watched watched_by acted t4 t8 t11 t12 t13 t14 signalled admitted is_old is_admitted checked from8 arrival_row watchdog_row start_from elapsed_of
 late_arises = (refl, (refl, refl))
 
 -- ---- The theorems of these names, of calls of the course.
@@ -160,7 +160,7 @@ pub record Met : Type 0 where
   delayed_samples : samples 4 100 (delayed_past 100 (drop 18 course)) ≡ samples block 100 (drop 18 course)
 
 pub premises_met : Met
-unfolding is_sample releases_by time_of sent_since passed_for_count passes_by signals signals_after master_after watched_in previous_by last_admitted step_of clocked operated quiet received arrived watched acted t4 t8 t11 t12 t13 t14 signalled admitted is_old is_admitted checked from8 arrival_row watchdog_row start_from elapsed_of
+unfolding is_sample releases_by time_of sent_since passed_for_count passes_by signals signals_after master_after watched_in previous_by last_admitted step_of clocked operated quiet received arrived watched watched_by acted t4 t8 t11 t12 t13 t14 signalled admitted is_old is_admitted checked from8 arrival_row watchdog_row start_from elapsed_of
 premises_met = record {
   sample_fresh = sample_fresh block 100 acknowledging (answers 590 4) refl;
   sample_since = sample_since block 100 going (answers 620 1) refl;

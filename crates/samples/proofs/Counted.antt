@@ -5,6 +5,9 @@ use mathlib.Core.Bool.{Bool, true, false, cond, ◌&&◌}
 use mathlib.Core.List.{List, [], ◌∷◌, ◌++◌, append-nil}
 use lib.Dec.{leb}
 use borrow.Author.Tests.{leb-true}
+use Rattle.std.specs.Bool.{then_some}
+use Rattle.std.specs.Prelude.{Option, None, Some, unwrap_or, option_map}
+use Rattle.std.specs.Option.{option_and}
 use Rattle.scl.specs.Happenings.{is_fresh}
 use Rattle.scl.specs.declared.Happening.{Happening}
 use Rattle.scl.proofs.Cases.{and_right}
@@ -12,34 +15,41 @@ use Rattle.fs_master.specs.Calls as masters
 use Rattle.fs_master.specs.History.{master_after}
 use Rattle.histogram.specs.declared.Histogram.{Histogram}
 use Rattle.histogram.specs.declared.Totals.{Totals}
-use Rattle.histogram.specs.declared.Sampled.{Sampled}
 use Rattle.histogram.specs.Samples.{bin_of, Within, none, CountsToLimit}
 use Rattle.histogram.specs.Counted.{with_bins, raised_if, counted_of, totalled_of}
 use Rattle.histogram.proofs.Counting.{cleared_holds, counted-holds}
 use Rattle.histogram.proofs.Parts.{counted_parts}
 use Rattle.histogram.proofs.Samples.{within_more}
-use Rattle.samples.specs.Tallied.{master_turn_of, tallied, tallied_by, stepped}
+use Rattle.samples.specs.Tallied.{tallied, tallied_by, stepped}
 use Rattle.samples.specs.Samples.{time_of, is_sample, samples, histogram_after}
 use Rattle.samples.proofs.Samples.{time_by, sample_is}
 
 -- a response is tallied in a histogram as in its two parts, the totals and the bins
-pub tallied_parts : (a : Totals) (bins : List ℕ) (w : ℕ) (releases : Bool) (t : ℕ) → tallied (with_bins a bins) w releases t ≡ with_bins (tallied_by a w releases t).totals (raised_if (tallied_by a w releases t).counted bins (bin_of w t))
+pub tallied_parts : (a : Totals) (bins : List ℕ) (w : ℕ) (t : Option ℕ) → tallied (with_bins a bins) w t ≡ with_bins (unwrap_or (tallied_by a w t) a) (raised_if bins (option_and (tallied_by a w t) (option_map (bin_of w) t)))
 unfolding tallied tallied_by
-tallied_parts a bins w releases t = go (releases && leb t w)
+tallied_parts a bins w None = refl
+tallied_parts a bins w (Some t) = go (leb t w)
   where
-    after : Bool → Sampled
-    after b = cond b (totalled_of a t) (record { totals = a; counted = false })
+    after : Bool → Option Totals
+    after b = cond b (totalled_of a t) None
 
-    go : (b : Bool) → cond b (counted_of (with_bins a bins) w t) (with_bins a bins) ≡ with_bins (after b).totals (raised_if (after b).counted bins (bin_of w t))
+    go : (b : Bool) → cond b (counted_of (with_bins a bins) w t) (with_bins a bins) ≡ with_bins (unwrap_or (after b) a) (raised_if bins (option_and (after b) (Some (bin_of w t))))
     go true = counted_parts a bins w t
     go false = refl
+
+-- tallied with the time of a release, it counts where that is at most W
+tallied_then : (k : Histogram) (w : ℕ) (releases : Bool) (t : ℕ) → tallied k w (then_some releases t) ≡ cond (releases && leb t w) (counted_of k w t) k
+unfolding tallied
+tallied_then k w true t = refl
+tallied_then k w false t = refl
 
 -- a happening counts where it is a sample
 module _ (at w : ℕ) (past : List Happening) (h : Happening) where
   pub counts : (k : Histogram) → stepped k (master_after at w past) w h ≡ cond (is_sample at w past h) (counted_of k w (time_of at w past h)) k
-  unfolding tallied
   counts k =
-      ap (λ (t : ℕ). tallied k w (master_turn_of (master_after at w past) w h).releases t) (sym (time_by at w past h))
+      let o = masters.step_of (master_after at w past) w h in
+      ap (λ (t : ℕ). tallied k w (then_some (is_fresh o.mark) t)) (sym (time_by at w past h))
+      ∙ tallied_then k w (is_fresh o.mark) (time_of at w past h)
       ∙ ap (λ (b : Bool). cond b (counted_of k w (time_of at w past h)) k) (sym (sample_is at w past h))
 
   in_time : is_sample at w past h ≡ true → time_of at w past h ≤ w

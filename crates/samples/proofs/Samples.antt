@@ -6,6 +6,7 @@ use mathlib.Core.List.{List, [], ◌∷◌}
 use mathlib.Core.Logic.{◌⊎◌, inl, inr}
 use lib.Dec.{eqb, leb}
 use borrow.Author.Tests.{eqb-true, eq-eqb}
+use Rattle.std.specs.Prelude.{Option}
 use Rattle.scl.specs.Time.{elapsed_of}
 use Rattle.scl.specs.Counts.{inverted}
 use Rattle.scl.specs.Happenings.{reading_of, is_failure, mark_of, is_fresh}
@@ -54,10 +55,10 @@ row_releases m f at faults =
     row_case (λ (r : Row). uses_PDin r f.SDset m.setSD_C ≡ is_fresh (mark_of true (acted (admitted m f) r at f.SDset).released)) m faults
     (λ _ _. fresh_as (not (f.SDset || m.setSD_C))) (λ _ _. refl) (λ _ _ _. fresh_as (not (f.SDset || m.setSD_C))) (λ _ _. refl) (λ _ _ _. refl)
 
-received_releases : (m : Master) (r : Row) (at : ℕ) (f : Response) → uses_PDin (received m r at f).arrival f.SDset m.setSD_C ≡ is_fresh (received m r at f).mark
-unfolding received arrived quiet
+received_releases : (m : Master) (r : Option Row) (at : ℕ) (f : Response) → releases_by (received m r at f).arrival m.setSD_C (happening.Response at f) ≡ is_fresh (received m r at f).mark
+unfolding releases_by received arrived quiet
 received_releases m r at f =
-    cond_case (λ (o : Outcome). uses_PDin o.arrival f.SDset m.setSD_C ≡ is_fresh o.mark) (is_admitted m f) {x = arrived m r at f (checked m f)} {y = quiet m r (is_old m f)}
+    cond_case (λ (o : Outcome). releases_by o.arrival m.setSD_C (happening.Response at f) ≡ is_fresh o.mark) (is_admitted m f) {x = arrived m r at f (checked m f)} {y = quiet m r (is_old m f)}
     (λ _. row_releases m f at (has_faults (is_failure (checked m f)) f))
     (λ _. none_as m.released)
 

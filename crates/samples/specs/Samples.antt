@@ -1,12 +1,12 @@
 -- 01, "The histogram and the trend", with 02, item 2: which responses since an accepted block are samples, and of what time. The block has this reading
 -- and this W; in every list of happenings the latest stands first. Assumes nothing.
-use Rattle.std.specs.Prelude.{ℕ, Bool, false, cond, not, ◌&&◌, ◌||◌, List, [], ◌∷◌, ◌++◌, eqb, leb}
+use Rattle.std.specs.Prelude.{ℕ, Bool, false, cond, not, ◌&&◌, ◌||◌, List, [], ◌∷◌, ◌++◌, eqb, leb, Option, Some, None}
 use Rattle.scl.specs.Time.{elapsed_of}
 use Rattle.scl.specs.Happenings.{reading_of}
 use Rattle.scl.specs.declared.Happening.{Happening}
 use Rattle.scl.specs.declared.Happening.TheVariants as happening
 use Rattle.fs_master.specs.declared.Row.{Row}
-use Rattle.fs_master.specs.declared.Row.TheVariants.{Stay, T4, T7, T8, T11, T12, T13, T14}
+use Rattle.fs_master.specs.declared.Row.TheVariants.{T4, T7, T8, T11, T12, T13, T14}
 use Rattle.fs_master.specs.Calls.{step_of}
 use Rattle.fs_master.specs.History.{master_after, watched_in, passes_by, signals}
 use Rattle.histogram.specs.declared.Histogram.{Histogram}
@@ -18,7 +18,6 @@ use Rattle.samples.specs.Tallied.{stepped}
 
 -- 000 Table 38: "use PDin" stands in T4 and T11 alone, where neither the SDset of the SPDU nor setSD_C is 1
 abbrev pub uses_PDin : Row → Bool → Bool → Bool
-uses_PDin Stay SDset setSD_C = false
 uses_PDin T4 SDset setSD_C = not (SDset || setSD_C)
 uses_PDin T7 SDset setSD_C = false
 uses_PDin T8 SDset setSD_C = false
@@ -27,12 +26,13 @@ uses_PDin T12 SDset setSD_C = false
 uses_PDin T13 SDset setSD_C = false
 uses_PDin T14 SDset setSD_C = false
 
--- "at that step": by the row that the response of this call led to, and setSD_C as it is in this call
-unfoldable pub releases_by : Row → Bool → Happening → Bool
-releases_by row setSD_C (happening.Response at f) = uses_PDin row f.SDset setSD_C
-releases_by row setSD_C (happening.Request at q) = false
-releases_by row setSD_C (happening.Clock at) = false
-releases_by row setSD_C (happening.Operator at _ _) = false
+-- "at that step": by the row that the response of this call led to, if any, and setSD_C as it is in this call
+unfoldable pub releases_by : Option Row → Bool → Happening → Bool
+releases_by None setSD_C h = false
+releases_by (Some row) setSD_C (happening.Response at f) = uses_PDin row f.SDset setSD_C
+releases_by (Some row) setSD_C (happening.Request at q) = false
+releases_by (Some row) setSD_C (happening.Clock at) = false
+releases_by (Some row) setSD_C (happening.Operator at _ _) = false
 
 abbrev pub releases_in : ℕ → ℕ → List Happening → Happening → Bool
 releases_in at w past h = releases_by (step_of (master_after at w past) w h).arrival (signals past).setSD_C h

@@ -1,5 +1,6 @@
 -- Method: one happening at a port's FS-Master and its histogram. What is meant is in Samples.antt. Assumes nothing.
-use Rattle.std.specs.Prelude.{ℕ, Bool, false, cond, ◌&&◌, leb}
+use Rattle.std.specs.Prelude.{ℕ, cond, leb, Option, None, Some}
+use Rattle.std.specs.Bool.{then_some}
 use Rattle.scl.specs.Time.{elapsed_of}
 use Rattle.scl.specs.Happenings.{reading_of, is_fresh}
 use Rattle.scl.specs.declared.Happening.{Happening}
@@ -7,30 +8,31 @@ use Rattle.fs_master.specs.declared.Master.{Master}
 use Rattle.fs_master.specs.Calls as masters
 use Rattle.histogram.specs.declared.Histogram.{Histogram}
 use Rattle.histogram.specs.declared.Totals.{Totals}
-use Rattle.histogram.specs.declared.Sampled.{Sampled}
 use Rattle.histogram.specs.Counted.{counted_of, totalled_of}
 use Rattle.samples.specs.declared.MasterTurn.{MasterTurn}
 
--- A happening at the FS-Master. `releases`: a response has come that led to a release, t ms after the count that it answers was first sent, which is
+-- A happening at the FS-Master. `t`: where a response has come that led to a release, the ms after the count that it answers was first sent, which is
 -- the sample's start once the watchdog has been looked at (R17).
 abbrev pub master_turn_of : Master → ℕ → Happening → MasterTurn
 master_turn_of m w h =
     let o = masters.step_of m w h in
+    let releases = is_fresh o.mark in
     record {
       master = o.master;
       mark = o.mark;
-      releases = is_fresh o.mark;
-      t = elapsed_of (reading_of h) o.sent;
+      t = then_some releases (elapsed_of (reading_of h) o.sent);
     }
 
 -- "with elapsed t at most W"; 01's whole sentence is `samples`
-unfoldable pub tallied : Histogram → ℕ → Bool → ℕ → Histogram
-tallied h w releases t = cond (releases && leb t w) (counted_of h w t) h
+unfoldable pub tallied : Histogram → ℕ → Option ℕ → Histogram
+tallied h w None = h
+tallied h w (Some t) = cond (leb t w) (counted_of h w t) h
 
--- the same in two parts: the totals, with whether a bin is raised
-unfoldable pub tallied_by : Totals → ℕ → Bool → ℕ → Sampled
-tallied_by a w releases t = cond (releases && leb t w) (totalled_of a t) (record { totals = a; counted = false })
+-- the same of the totals alone: none where nothing is counted
+unfoldable pub tallied_by : Totals → ℕ → Option ℕ → Option Totals
+tallied_by a w None = None
+tallied_by a w (Some t) = cond (leb t w) (totalled_of a t) None
 
 -- the histogram of a port after a happening, its FS-Master before it being m
 abbrev pub stepped : Histogram → Master → ℕ → Happening → Histogram
-stepped k m w h = let turn = master_turn_of m w h in tallied k w turn.releases turn.t
+stepped k m w h = tallied k w (master_turn_of m w h).t

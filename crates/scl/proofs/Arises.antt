@@ -1,5 +1,5 @@
 -- The definitions that both machines share, at each of their edges: computed, with the documents' numbers. Assumes nothing.
-use Rattle.std.proofs.Common.{◌≡◌, ℕ, Bool, true, false, List, [], ◌∷◌, map, refl}
+use Rattle.std.proofs.Common.{◌≡◌, ℕ, Bool, true, false, List, [], ◌∷◌, map, refl, Some, None}
 use Rattle.scl.specs.declared.Happening.{Happening}
 use Rattle.scl.specs.declared.Happening.TheVariants as happening
 use Rattle.scl.specs.declared.Response.{Response}
@@ -27,7 +27,7 @@ pub each_mirror : map inverted counts ≡ 7 ∷ 6 ∷ 5 ∷ 4 ∷ 3 ∷ 2 ∷ 1 
 each_mirror = refl
 
 -- 000 Tables 38 and 40: CRC_check, PortNum_check, Counter_check, the first that fails
-pub each_check : (s p : Bool) → (check_of false s p ≡ check.Signature) × ((check_of true false p ≡ check.Port) × ((check_of true true false ≡ check.Count) × (check_of true true true ≡ check.None)))
+pub each_check : (s p : Bool) → (check_of false s p ≡ Some check.Signature) × ((check_of true false p ≡ Some check.Port) × ((check_of true true false ≡ Some check.Count) × (check_of true true true ≡ None)))
 each_check s p = (refl, (refl, (refl, refl)))
 
 -- 01: without release safe values; with it this call's values where an SPDU led to a row, else an empty part
@@ -42,7 +42,7 @@ each_fresh = refl
 -- as include/whakelouna.h numbers them
 pub each_number :
     (map mark_number_of (Fresh ∷ GoesOn ∷ Safe ∷ Nothing ∷ []) ≡ 0 ∷ 1 ∷ 2 ∷ 3 ∷ [])
-    × (map check_number_of (check.None ∷ check.Signature ∷ check.Port ∷ check.Count ∷ []) ≡ 0 ∷ 1 ∷ 2 ∷ 3 ∷ [])
+    × (map check_number_of (None ∷ Some check.Signature ∷ Some check.Port ∷ Some check.Count ∷ []) ≡ 0 ∷ 1 ∷ 2 ∷ 3 ∷ [])
 each_number = (refl, refl)
 
 -- each happening has its own reading, and a delay of k ms changes that alone

@@ -1,5 +1,5 @@
 -- What happens at a port, and what a call says of it. Assumes nothing.
-use Rattle.std.specs.Prelude.{ℕ, Bool, true, false, cond, not}
+use Rattle.std.specs.Prelude.{ℕ, Bool, true, false, cond, not, Option, Some, None}
 use Rattle.scl.specs.declared.Happening.{Happening}
 use Rattle.scl.specs.declared.Happening.TheVariants as happening
 use Rattle.scl.specs.declared.Mark.{Mark}
@@ -14,17 +14,17 @@ reading_of (happening.Request at request) = at
 reading_of (happening.Clock at) = at
 reading_of (happening.Operator at setSD_C ChFAck_C) = at
 
--- The checks in their order (R13): signature, port number, count; of each whether it holds.
-abbrev pub check_of : Bool → Bool → Bool → Check
+-- The check that failed first, in their order (R13): signature, port number, count; of each whether it holds.
+abbrev pub check_of : Bool → Bool → Bool → Option Check
 check_of signature port count =
-    cond (not signature) check.Signature (cond (not port) check.Port (cond (not count) check.Count check.None))
+    cond (not signature) (Some check.Signature) (cond (not port) (Some check.Port) (cond (not count) (Some check.Count) None))
 
 -- MCommErr (000 Table 37), CommErr (Table 39)
-abbrev pub is_failure : Check → Bool
-is_failure check.None = false
-is_failure check.Signature = true
-is_failure check.Port = true
-is_failure check.Count = true
+abbrev pub is_failure : Option Check → Bool
+is_failure None = false
+is_failure (Some check.Signature) = true
+is_failure (Some check.Port) = true
+is_failure (Some check.Count) = true
 
 -- 01: safe values where the end does not release; else what this call's SPDU led to, or an empty part where no SPDU led to a row and earlier
 -- values stay released (R13a, R26)
@@ -45,8 +45,8 @@ mark_number_of GoesOn = 1
 mark_number_of Safe = 2
 mark_number_of Nothing = 3
 
-abbrev pub check_number_of : Check → ℕ
-check_number_of check.None = 0
-check_number_of check.Signature = 1
-check_number_of check.Port = 2
-check_number_of check.Count = 3
+abbrev pub check_number_of : Option Check → ℕ
+check_number_of None = 0
+check_number_of (Some check.Signature) = 1
+check_number_of (Some check.Port) = 2
+check_number_of (Some check.Count) = 3

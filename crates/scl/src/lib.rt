@@ -36,12 +36,13 @@ pub struct Request {
 }
 
 // What a call hands on at an end: process octets of this SPDU, safe values, or nothing because release goes on or because the call was refused.
-#[derive(Clone, Copy)]
+// The numbers are those outside (`mark_number`).
+#[derive(Clone, Copy, Debug, PartialEq, Eq)]
 pub enum Mark {
-    Fresh,
-    Safe,
-    GoesOn,
-    Nothing,
+    Fresh = 0,
+    GoesOn = 1,
+    Safe = 2,
+    Nothing = 3,
 }
 
 // What happens at a port from outside (01), each with its clock reading: an SPDU received as FS-Master, one received as FS-Device, a clock
@@ -54,20 +55,19 @@ pub enum Happening {
     Operator(u32, bool, bool),
 }
 
-// The check that failed first.
-#[derive(Clone, Copy)]
+// A check of a received SPDU, with its number outside (`check_number`).
+#[derive(Clone, Copy, Debug, PartialEq, Eq)]
 pub enum Check {
-    None,
-    Signature,
-    Port,
-    Count,
+    Signature = 1,
+    Port = 2,
+    Count = 3,
 }
 
 #[tactic(auto, unfolding(crate::specs::Time::elapsed_of))]
 pub fn elapsed(now: u32, since: u32) -> u32
     ensures { result ≡ elapsed_of now since }
 {
-    std::num::wrapping_sub_u32(now, since)
+    now.wrapping_sub(since)
 }
 
 // Whether a watchdog time of w ms is over.
@@ -104,30 +104,27 @@ pub fn inverted_count(count: u8) -> u8
     7 - count % 8
 }
 
-pub fn first_failed(signature: bool, port: bool, count: bool) -> Check
+// The check that failed first, if one did.
+pub fn first_failed(signature: bool, port: bool, count: bool) -> Option<Check>
     ensures { result ≡ check_of signature port count }
 {
     if !signature {
-        return Check::Signature;
+        return Some(Check::Signature);
     }
     if !port {
-        return Check::Port;
+        return Some(Check::Port);
     }
     if !count {
-        return Check::Count;
+        return Some(Check::Count);
     }
-    Check::None
+    None
 }
 
-pub fn is_failure(check: Check) -> bool
+// MCommErr and CommErr: one failed.
+pub fn is_failure(check: Option<Check>) -> bool
     ensures { result ≡ is_failure check }
 {
-    match check {
-        Check::None => false,
-        Check::Signature => true,
-        Check::Port => true,
-        Check::Count => true,
-    }
+    check.is_some()
 }
 
 // What an end hands on, after a call in which an SPDU led to a row or not.
@@ -143,32 +140,21 @@ pub fn mark_of(admitted: bool, released: bool) -> Mark
 pub fn is_fresh(mark: Mark) -> bool
     ensures { result ≡ is_fresh mark }
 {
-    match mark {
-        Mark::Fresh => true,
-        Mark::GoesOn => false,
-        Mark::Safe => false,
-        Mark::Nothing => false,
-    }
+    mark == Mark::Fresh
 }
 
 pub fn mark_number(mark: Mark) -> u8
     ensures { result ≡ mark_number_of mark }
 {
-    match mark {
-        Mark::Fresh => 0,
-        Mark::GoesOn => 1,
-        Mark::Safe => 2,
-        Mark::Nothing => 3,
-    }
+    mark as u8
 }
 
-pub fn check_number(check: Check) -> u8
+// 0 where none failed. A function, as rows and checks come in an Option and Rust lets no crate write a `From` of one for u8.
+pub fn check_number(check: Option<Check>) -> u8
     ensures { result ≡ check_number_of check }
 {
     match check {
-        Check::None => 0,
-        Check::Signature => 1,
-        Check::Port => 2,
-        Check::Count => 3,
+        Some(check) => check as u8,
+        None => 0,
     }
 }

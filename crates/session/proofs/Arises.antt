@@ -24,7 +24,8 @@ use Rattle.bench.specs.Ports.{new_bench, new_port, accepted_port, port_at, with_
 use Rattle.bench.specs.Calls.{asked, asked_by_block, done, placed}
 use Rattle.bench.specs.History.{addressed, never, since, goes_on, extended, since_block, result_of, history_by}
 use Rattle.bench.proofs.Arises.{uneven, signs_zero}
-use Rattle.session.specs.declared.Stop.TheVariants.{Full, Bad, Cut, End}
+use Rattle.std.specs.Prelude.{Some, None}
+use Rattle.record.specs.declared.NoRecord.TheVariants.{Bad, Cut, End}
 use Rattle.lines.specs.Text.{numeral, refusal_line, summary_line, port_line}
 use Rattle.session.specs.Text.{line_of_port, port_lines}
 use Rattle.session.specs.Run.{Entry, entry, act_by, calls_of, start, ran, closing, printed, fed_of, more, applied_by, printed_by, record_line_by}
@@ -62,10 +63,10 @@ clock = 0x53 ∷ 0x4C ∷ 3 ∷ 1 ∷ 0 ∷ 0 ∷ 0 ∷ 0 ∷ 0 ∷ []
 
 -- "r 1 code 9" is told of it where port 1 does not run
 pub each_stop :
-    ((fed_of start clock 63).stop ≡ Full)
-    × ((fed_of start (replicate 9 0) 64).stop ≡ Bad)
-    × ((fed_of start (0x53 ∷ []) 64).stop ≡ Cut)
-    × ((fed_of start clock 64).stop ≡ End)
+    ((fed_of start clock 63).stop ≡ None)
+    × ((fed_of start (replicate 9 0) 64).stop ≡ Some Bad)
+    × ((fed_of start (0x53 ∷ []) 64).stop ≡ Some Cut)
+    × ((fed_of start clock 64).stop ≡ Some End)
     × ((fed_of start clock 64).used ≡ 9)
     × ((fed_of start clock 64).written ≡ 11)
 unfolding fed_of record_line_by numeral refusal_line new_bench new_port port_at result_of placed asked done silent
@@ -115,7 +116,7 @@ record Since : Type 0 where
   sample : samples 1000 100 past ≡ 10 ∷ []
 
 since_met : Since
-unfolding since_block extended goes_on addressed result_of history_by asked asked_by_block done placed port_at with_port new_bench new_port silent signing.signature signing.octet signing.shift_in_all signing.shift_in accepted_port step_of said samples is_sample sent_since passed_for_count releases_by signals signals_after time_of master_after watched_in passes_by elapsed_of table38.watchdog_row table38.is_old table38.is_admitted table38.acted masters.watched masters.step_of masters.received masters.arrived table38.arrival_row table38.checked
+unfolding since_block extended goes_on addressed result_of history_by asked asked_by_block done placed port_at with_port new_bench new_port silent signing.signature signing.octet signing.shift_in_all signing.shift_in accepted_port step_of said samples is_sample sent_since passed_for_count releases_by signals signals_after time_of master_after watched_in passes_by elapsed_of table38.watchdog_row table38.is_old table38.is_admitted table38.acted masters.watched masters.watched_by masters.step_of masters.received masters.arrived table38.arrival_row table38.checked
 since_met = record { one = refl; none = refl; sample = refl }
 
 pub line_shown_met : line_of_port 1 (port_at (ran start records).bench 1) ≡ port_line 1 100 1 10 10

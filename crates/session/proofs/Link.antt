@@ -1,5 +1,5 @@
 -- A run from its middle on: what the records read and the records to come make of the start. Assumes nothing.
-use Rattle.std.proofs.Common.{◌≡◌, ℕ, zero, suc, ◌+◌, ◌-◌, ◌/◌, ◌<◌, ◌≤◌, true, false, ◌⊎◌, List, [], ◌∷◌, ◌++◌, length, get_or, take, drop, sym, refl, ap, ◌∙◌, ⊎_elim, append_assoc, append-nil, arith, length-drop, take-append-drop, length-take-le, drop-drop}
+use Rattle.std.proofs.Common.{◌≡◌, ℕ, zero, suc, ◌+◌, ◌-◌, ◌/◌, ◌^◌, ◌<◌, ◌≤◌, Bool, true, false, cond, ◌⊎◌, List, [], ◌∷◌, ◌++◌, length, get_or, take, drop, sym, refl, ap, ◌∙◌, ⊎_elim, append_assoc, append-nil, arith, length-drop, take-append-drop, length-take-le, drop-drop}
 use Rattle.io.specs.Counts.{IsPrefixLen}
 use Rattle.answer.specs.declared.Answer.{Answer}
 use Rattle.ranges.specs.Fields.{outside}
@@ -7,15 +7,19 @@ use Rattle.bench.specs.Methods.{Method, annex_d}
 use Rattle.bench.specs.declared.Setting.{Setting}
 use Rattle.bench.specs.declared.Bench.{Bench}
 use Rattle.bench.specs.declared.Act.{Act}
-use Rattle.bench.specs.Ports.{no_port, place_of}
+use Rattle.bench.specs.Ports.{no_port, index_of}
 use Rattle.bench.specs.History.{answer_of, after}
 use Rattle.session.specs.declared.State.{State}
-use Rattle.session.specs.declared.Stop.{Stop}
+use Rattle.std.specs.Prelude.{Option, Result}
+use Rattle.std.specs.Result.{result_err}
+use Rattle.std.specs.Int.{from_bool}
+use Rattle.record.specs.declared.Record.{Record}
+use Rattle.record.specs.declared.NoRecord.{NoRecord}
 use Rattle.session.specs.declared.Fed.{Fed}
-use Rattle.record.specs.Format.{length_of, size_of, Form, whole, form}
+use Rattle.record.specs.Format.{number_of, length_of, size_of, Form, nothing, part, bad, whole, form, record_by}
 use Rattle.session.specs.Text.{Written, line_room}
 use Rattle.session.specs.Run.{Entry, entry, entry_of, is_whole, records_of, rest_of, act_by, call_of, more, plus, state_of, refused_after, applied, line_for, record_line, ran, lines_of, stop_of, fed_of, fed_text, fronted, applied_by, record_line_by}
-use Rattle.record.proofs.Form.{Found}
+use Rattle.record.proofs.Form.{Found, tests_of, numbered}
 use Rattle.bench.proofs.Acted.{act_ports, answer_in}
 use Rattle.session.proofs.Turn.{turn_bench, turn_answer}
 use Rattle.lines.proofs.Written.{agree}
@@ -88,14 +92,21 @@ module _ {st₀ : State} {s out₀ : List ℕ} {n : ℕ} {out : List ℕ} {st : 
 
 -- ---- What `feed` gives
 
-same_fed : {st st' : State} {u u' w w' : ℕ} {z z' : Stop} → st ≡ st' → u ≡ u' → w ≡ w' → z ≡ z'
+-- why no whole record stands there
+pub stop_read : (f : Form) (s : List ℕ) (p : ℕ) {r : Result Record NoRecord} → r ≡ record_by f s p → result_err r ≡ stop_of f
+stop_read nothing s p e = rw e
+stop_read part s p e = rw e
+stop_read bad s p e = rw e
+stop_read whole s p e = rw e
+
+same_fed : {st st' : State} {u u' w w' : ℕ} {z z' : Option NoRecord} → st ≡ st' → u ≡ u' → w ≡ w' → z ≡ z'
     → ◌≡◌ {A = Fed} (record { state = st; used = u; written = w; stop = z }) (record { state = st'; used = u'; written = w'; stop = z' })
 same_fed {st} {st'} {u} {u'} {w} {w'} {z} {z'} a b c d = rw (a, b, c, d)
 
 module _ {st₀ st₁ : State} {s out₀ : List ℕ} {n : ℕ} {out : List ℕ} {st : State} {n' at w : ℕ} (l : Link st₀ s out₀ n out st n' at w)
     (same : st₀ ≡ st₁) (room : n ≡ length out₀ / line_room)
     (none : records_of n' (drop at s) ≡ []) (left : rest_of n' (drop at s) ≡ drop at s) (a : at ≤ length s) (b : w ≤ length out) where
-  fed_is : {z : Stop} → z ≡ stop_of (form (drop at s)) → ◌≡◌ {A = Fed} (record { state = st; used = at; written = w; stop = z }) (fed_of st₁ s (length out₀))
+  fed_is : {z : Option NoRecord} → z ≡ stop_of (form (drop at s)) → ◌≡◌ {A = Fed} (record { state = st; used = at; written = w; stop = z }) (fed_of st₁ s (length out₀))
   unfolding fed_of
   fed_is {z} e =
       rw (← same, ← room)
@@ -105,7 +116,7 @@ module _ {st₀ st₁ : State} {s out₀ : List ℕ} {n : ℕ} {out : List ℕ} 
   unfolding fed_text
   text_out = rw (← same, ← room) (out_is l none left a b)
 
-abbrev pub fed : State → ℕ → ℕ → Stop → Fed
+abbrev pub fed : State → ℕ → ℕ → Option NoRecord → Fed
 fed st used written stop = record { state = st; used = used; written = written; stop = stop }
 
 -- what `feed` promises of its answer r and of the buffer after it
@@ -128,19 +139,24 @@ module _ {st₀ : State} {s out₀ : List ℕ} {n : ℕ} {out : List ℕ} {st : 
 pub more-plus : (records n : ℕ) → plus records (n + 1) ≡ more (plus records n)
 more-plus records n = omega arith
 
+-- one more where a 13 is told
+pub one_if : (some : Bool) (n : ℕ) → n < 2 ^ 64 → plus n (from_bool some) ≡ cond some (more n) n
+one_if true n h = refl
+one_if false n h = omega arith
+
 module _ (b : Bench) (records refused : ℕ) (e : Entry) (a : Act)
-    (ha : a ≡ act_by annex_d (outside 1 8 e.port) (get_or b.ports (place_of e.port).index no_port).setting e) where
+    (ha : a ≡ act_by annex_d (outside 1 8 e.port) (get_or b.ports (index_of e.port) no_port).setting e) where
   abbrev st : State
   st = state_of b records refused
 
   abbrev later : Bench
-  later = record { ports = act_ports b.ports (place_of e.port).index e.at a }
+  later = record { ports = act_ports b.ports (index_of e.port) e.at a }
 
   answer_is : answer_in a ≡ answer_of b (call_of b e)
   answer_is = ap answer_in ha ∙ turn_answer b e
 
   bench_is : later ≡ after b (call_of b e)
-  bench_is = ap (λ (a : Act). record { ports = act_ports b.ports (place_of e.port).index e.at a }) ha ∙ turn_bench b e
+  bench_is = ap (λ (a : Act). record { ports = act_ports b.ports (index_of e.port) e.at a }) ha ∙ turn_bench b e
 
   state_after : state_of later (more records) (refused_after refused (answer_in a)) ≡ applied st e
   unfolding applied_by
@@ -152,29 +168,33 @@ module _ (b : Bench) (records refused : ℕ) (e : Entry) (a : Act)
   unfolding record_line_by
   line_after = ap (λ (x : Answer). line_for (more records) x) answer_is
 
+-- a record's octets are those between two positions of s
+abbrev pub entry_in : List ℕ → Record → Entry
+entry_in s r = entry (number_of r.kind) r.port r.clock (take (r.next - r.start) (drop r.start s))
+
 -- the record that stands at a position
-entry_found : (s : List ℕ) (at kind port clock start next : ℕ) → Found (form (drop at s)) (drop at s) at kind port clock start next
-    → entry kind port clock (take (next - start) (drop start s)) ≡ entry_of (drop at s)
-entry_found s at kind port clock start next f =
-    let len : next - start ≡ length_of (drop at s) = omega (arith, f.start, f.next) in
-    let from : drop start s ≡ drop 9 (drop at s) = rw f.start (sym (drop-drop 9 at s)) in
-    rw (len, from, f.kind, f.port, f.clock)
+entry_found : (s : List ℕ) (at : ℕ) (r : Record) → Found (form (drop at s)) (drop at s) at r → entry_in s r ≡ entry_of (drop at s)
+entry_found s at r f =
+    let len : r.next - r.start ≡ length_of (drop at s) = omega (arith, f.start, f.next) in
+    let from : drop r.start s ≡ drop 9 (drop at s) = rw f.start (sym (drop-drop 9 at s)) in
+    let kind = ap number_of f.kind ∙ numbered (drop at s) (tests_of (drop at s) f.is_whole_lem).right in
+    rw (len, from, kind, f.port, f.clock)
 
 module _ (st₀ : State) (s out₀ : List ℕ) (n : ℕ) (out : List ℕ) (b : Bench) (records refused n' at w : ℕ)
     (l : Link st₀ s out₀ n out (state_of b records refused) n' at w) where
-  pub stepped : (out' : List ℕ) (kind port clock start next m w' : ℕ) (setting : Setting) (a : Act) (by : Method)
-      → Found (form (drop at s)) (drop at s) at kind port clock start next → 0 < n' → by ≡ annex_d
-      → setting ≡ (get_or b.ports (place_of port).index no_port).setting
-      → a ≡ act_by by (outside 1 8 port) setting (entry kind port clock (take (next - start) (drop start s)))
+  pub stepped : (out' : List ℕ) (r : Record) (m w' : ℕ) (setting : Setting) (a : Act) (by : Method)
+      → Found (form (drop at s)) (drop at s) at r → 0 < n' → by ≡ annex_d
+      → setting ≡ (get_or b.ports (index_of r.port) no_port).setting
+      → a ≡ act_by by (outside 1 8 r.port) setting (entry_in s r)
       → m ≡ more records → Written out w (line_for m (answer_in a)) w' out'
-      → Link st₀ s out₀ n out' (state_of (record { ports = act_ports b.ports (place_of port).index clock a }) m (refused_after refused (answer_in a))) (n' - 1) next w'
-  stepped out' kind port clock start next m w' setting a by f h hs hp ha hm v =
-      let e = entry kind port clock (take (next - start) (drop start s)) in
-      let is : e ≡ entry_of (drop at s) = entry_found s at kind port clock start next f in
-      let ha' : a ≡ act_by annex_d (outside 1 8 port) (get_or b.ports (place_of port).index no_port).setting e =
+      → Link st₀ s out₀ n out' (state_of (record { ports = act_ports b.ports (index_of r.port) r.clock a }) m (refused_after refused (answer_in a))) (n' - 1) r.next w'
+  stepped out' r m w' setting a by f h hs hp ha hm v =
+      let e = entry_in s r in
+      let is : e ≡ entry_of (drop at s) = entry_found s at r f in
+      let ha' : a ≡ act_by annex_d (outside 1 8 r.port) (get_or b.ports (index_of r.port) no_port).setting e =
       ha
-      ∙ ap (λ (by : Method). act_by by (outside 1 8 port) setting e) hs
-      ∙ ap (λ (s : Setting). act_by annex_d (outside 1 8 port) s e) hp in
+      ∙ ap (λ (by : Method). act_by by (outside 1 8 r.port) setting e) hs
+      ∙ ap (λ (s : Setting). act_by annex_d (outside 1 8 r.port) s e) hp in
       again l f.is_whole_lem h f.next
       (ap (λ (m : ℕ). state_of (later b records refused e a ha') m (refused_after refused (answer_in a))) hm ∙ state_after b records refused e a ha' ∙ ap (λ (e : Entry). applied (state_of b records refused) e) is)
       (ap (λ (m : ℕ). line_for m (answer_in a)) hm ∙ line_after b records refused e a ha' ∙ ap (λ (e : Entry). record_line (state_of b records refused) e) is)

@@ -10,8 +10,8 @@ use Rattle.bench.specs.declared.Port.{Port}
 use Rattle.bench.specs.declared.Bench.{Bench}
 use Rattle.bench.specs.declared.Act.{Act}
 use Rattle.bench.specs.declared.Act.TheVariants.{Refused}
-use Rattle.bench.specs.Methods.{annex_d}
-use Rattle.bench.specs.Ports.{no_port, place_of, port_at}
+use Rattle.bench.specs.Methods.{Method, annex_d}
+use Rattle.bench.specs.Ports.{no_port, index_of, port_at}
 use Rattle.bench.specs.Calls as calls
 use Rattle.bench.specs.History.{answer_of, after, result_of}
 use Rattle.bench.proofs.Acted.{bench_of, act_ports, answer_in, act_bench, act-answer, nowhere_block, nowhere_response, nowhere_clock, nowhere_operator}
@@ -81,6 +81,20 @@ out_of_range false true k₃ s e h = nowhere_response by_bits (outside 1 8 e.por
 out_of_range false false true s e h = nowhere_clock (outside 1 8 e.port) h s e.at true
 out_of_range false false false s e h = nowhere_operator (outside 1 8 e.port) h s e.at (setSD_in e.octets) (ack_in e.octets) true
 
+-- the same of any method, but for a block
+pub refused_outside : (m : Method) (s : Setting) (e : Entry)
+    → Refused answers.NoPort
+    ≡ cond (eqb e.kind 2) (calls.response_act m.spdu true s e.at e.octets true) (cond (eqb e.kind 3) (calls.clock_act true s e.at true) (calls.operator_act true s e.at (setSD_in e.octets) (ack_in e.octets) true))
+unfolding calls.asked
+refused_outside m s e = go (eqb e.kind 2) (eqb e.kind 3)
+  where
+    go : (k₂ k₃ : Bool)
+        → Refused answers.NoPort
+        ≡ cond k₂ (calls.response_act m.spdu true s e.at e.octets true) (cond k₃ (calls.clock_act true s e.at true) (calls.operator_act true s e.at (setSD_in e.octets) (ack_in e.octets) true))
+    go true k₃ = refl
+    go false true = refl
+    go false false = refl
+
 -- ---- At the bench
 
 module _ (b : Bench) (e : Entry) where
@@ -91,9 +105,9 @@ module _ (b : Bench) (e : Entry) where
   nowhere h s = out_of_range (eqb e.kind 1) (eqb e.kind 2) (eqb e.kind 3) s e h
 
   abbrev asked : Act
-  asked = act_at (get_or b.ports (place_of e.port).index no_port).setting
+  asked = act_at (get_or b.ports (index_of e.port) no_port).setting
 
-  pub turn_bench : bench_of (act_ports b.ports (place_of e.port).index e.at asked) ≡ after b (call_of b e)
+  pub turn_bench : bench_of (act_ports b.ports (index_of e.port) e.at asked) ≡ after b (call_of b e)
   turn_bench = act_bench b e.port e.at act_at nowhere ∙ sym (after_by b e (eqb e.kind 1) (eqb e.kind 2) (eqb e.kind 3))
 
   pub turn_answer : answer_in asked ≡ answer_of b (call_of b e)

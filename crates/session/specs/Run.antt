@@ -1,6 +1,6 @@
 -- 01, "The session program": a session is its whole records in order, each a call on the bench, and what is printed of them. What stands behind
 -- the last whole record, if anything, is a record cut short or a bad one: a 13, which ends reading and makes no call. Assumes nothing.
-use Rattle.std.specs.Prelude.{ℕ, zero, suc, ◌+◌, ◌-◌, ◌/◌, ◌%◌, ◌^◌, min, Bool, true, false, cond, not, List, [], ◌∷◌, ◌++◌, length, drop, replicate, ◌==◌, nat_lt, slice_index}
+use Rattle.std.specs.Prelude.{ℕ, zero, suc, ◌+◌, ◌-◌, ◌/◌, ◌%◌, ◌^◌, min, Bool, true, false, cond, not, List, [], ◌∷◌, ◌++◌, length, drop, replicate, ◌==◌, nat_lt, slice_index, Option, None, Some}
 use Rattle.answer.specs.declared.Answer.{Answer}
 use Rattle.answer.specs.declared.Answer.TheVariants as answers
 use Rattle.answer.specs.Answers.{number_of, is_taken}
@@ -15,8 +15,8 @@ use Rattle.bench.specs.Calls.{parameters_act, response_act, clock_act, operator_
 use Rattle.bench.specs.History.{Call, SetParameters, ReceiveResponse, Clock, Operator, result_of, history}
 use Rattle.session.specs.declared.State.{State}
 use Rattle.session.specs.declared.Fed.{Fed}
-use Rattle.session.specs.declared.Stop.{Stop}
-use Rattle.session.specs.declared.Stop.TheVariants.{Full, Bad, Cut, End}
+use Rattle.record.specs.declared.NoRecord.{NoRecord}
+use Rattle.record.specs.declared.NoRecord.TheVariants.{Bad, Cut, End}
 use Rattle.record.specs.Format.{kind_of, port_of, clock_of, octets_of, size_of, Form, nothing, part, bad, whole, form}
 use Rattle.lines.specs.Text.{refusal_line, summary_line}
 use Rattle.session.specs.Text.{port_lines}
@@ -174,11 +174,11 @@ printed s = printed_by annex_d s
 -- ---- In chunks
 
 -- why reading stopped, by what stands there: a whole record, for whose line there is no room; a bad one; one cut short; nothing
-abbrev pub stop_of : Form → Stop
-stop_of whole = Full
-stop_of bad = Bad
-stop_of part = Cut
-stop_of nothing = End
+abbrev pub stop_of : Form → Option NoRecord
+stop_of whole = None
+stop_of bad = Some Bad
+stop_of part = Some Cut
+stop_of nothing = Some End
 
 -- a chunk s, with a buffer of `room` octets lent for the lines: as many records as it has lines' room for
 unfoldable pub fed_of : State → List ℕ → ℕ → Fed

@@ -1,40 +1,45 @@
 // What a record asks of the port that it addresses.
-ghost use Rattle.std.specs.Prelude.{◌≡◌, slice_index};
+ghost use Rattle.std.specs.Prelude.{◌≡◌};
+ghost use Rattle.record.specs.Format.{number_of};
 ghost use Rattle.bench.specs.Methods.{method_of};
 ghost use Rattle.session.specs.Run as runs;
 
-use bench::{Act, Setting};
-use signature::Engine;
+use answer::Answer;
+use bench::{Act, End, Setting};
+use record::{Kind, Record};
+use signature::Signing;
 
-fn first_octet(octets: &[u8]) -> u8
-    ensures { result ≡ slice_index octets.now 0 }
-{
-    if 0 < octets.len() { octets[0] } else { 0 }
-}
-
-// A record lends zeros as safe values, so they hold.
+// Of its octets, which stand behind its head. A record lends zeros as safe values, so they hold.
 pub(crate) fn act_of(
-    engine: Engine,
-    short: &[u16; 256],
-    long: &[u32; 16],
+    signing: &Signing,
     outside: bool,
     setting: Setting,
-    kind: u8,
-    port: u8,
-    at: u32,
+    found: Record,
     octets: &[u8],
 ) -> Act
-    ensures { result ≡ runs.act_by (method_of engine short.now long.now) outside setting (runs.entry kind port at octets.now) }
+    ensures { result ≡ runs.act_by (method_of signing.now.engine signing.now.short.now signing.now.long.now) outside setting (runs.entry (number_of found.kind) found.port found.clock octets.now) }
 {
-    if kind == 1 {
-        return bench::parameters_act(engine, short, port, octets);
+    match found.kind {
+        Kind::Block => bench::parameters_act(signing, found.port, octets),
+        _ if outside => Act::Refused(Answer::NoPort),
+        Kind::Response => bench::spdu_act(
+            signing,
+            End::Master,
+            Some(setting),
+            found.clock,
+            octets,
+            true,
+        ),
+        Kind::Clock => bench::clock_act(Some(setting), found.clock, true),
+        Kind::Operator => {
+            let bits = octets.first().copied().unwrap_or(0);
+            bench::operator_act(
+                Some(setting),
+                found.clock,
+                bits % 2 == 1,
+                bits / 2 % 2 == 1,
+                true,
+            )
+        }
     }
-    if kind == 2 {
-        return bench::response_act(engine, short, long, outside, setting, at, octets, true);
-    }
-    if kind == 3 {
-        return bench::clock_act(outside, setting, at, true);
-    }
-    let bits = first_octet(octets);
-    bench::operator_act(outside, setting, at, bits % 2 == 1, bits / 2 % 2 == 1, true)
 }

@@ -9,6 +9,7 @@ mod run;
 mod text;
 
 use bench::Bench;
+use record::NoRecord;
 pub use run::{feed, finish, start};
 
 // How far a session has come: the bench, the whole records and those refused.
@@ -20,24 +21,12 @@ pub struct State {
     pub refused: u64,
 }
 
-// Why reading stopped.
-#[derive(Clone, Copy)]
-pub enum Stop {
-    // A whole record stands there, and there may be no room for its line.
-    Full,
-    // What stands there is no record: a 13.
-    Bad,
-    // A record begins there and is not whole: it goes on in the next chunk, or it is a 13.
-    Cut,
-    // All octets are used up.
-    End,
-}
-
-// After a chunk: how many of its octets are used up, and how many were written.
+// After a chunk: how many of its octets are used up, how many were written, and why no whole record stands behind those that are used up: `Bad` is
+// a 13, and so is `Cut` where no chunk follows. Where one stands there, there may be no room for its line.
 #[derive(Clone, Copy)]
 pub struct Fed {
     pub state: State,
     pub used: usize,
     pub written: usize,
-    pub stop: Stop,
+    pub stop: Option<NoRecord>,
 }

@@ -1,29 +1,28 @@
 // Whole lines of text, put into a buffer that is lent.
-ghost use Rattle.std.specs.Prelude.{◌≡◌, ◌+◌, ◌*◌, ◌≤◌, length, take};
-ghost use Rattle.io.specs.Counts.{IsPrefixLen};
+ghost use Rattle.std.specs.Prelude.{◌≡◌, ◌+◌, ◌*◌, ◌≤◌, length};
 ghost use Rattle.session.specs.Text as lines;
 
 use bench::{Bench, PORT_COUNT, Port};
 
-// The first n octets of a line.
-pub(crate) fn put(buf: &mut [u8], at: usize, line: &[u8], n: usize) -> usize
-    requires prefix_len { IsPrefixLen n line.now }
-    requires room { at + n ≤ length buf.old }
-    ensures { lines.Written buf.old at (take n line.now) result buf.new }
+// No struct over buf and at, here and in run.rt: a call lends the buffer once and answers where its text ends, and the contract (`Written`) speaks of
+// one list before and one after.
+pub(crate) fn put(buf: &mut [u8], at: usize, text: &[u8]) -> usize
+    requires { at + length text.now ≤ length buf.old }
+    ensures { lines.Written buf.old at text.now result buf.new }
 {
-    at + octets::copy(&line[..n], &mut buf[at..])
+    at + octets::copy(text, &mut buf[at..])
 }
 
 fn line_of_port(buf: &mut [u8], at: usize, port: u8, p: Port) -> usize
     requires { at + lines.port_room ≤ length buf.old }
     ensures written { lines.Written buf.old at (lines.line_of_port port p) result buf.new }
-    ensures upper_bound { result ≤ at + lines.port_room }
+    ensures at_most_a_line { result ≤ at + lines.port_room }
 {
     if p.setting.running {
         let w = p.setting.params.FSP_WatchdogTime;
-        let total = p.live.totals.total;
-        let line = lines::port_line(port, w, total, p.live.totals.lowest, p.live.totals.highest);
-        put(buf, at, &line.octets, line.length)
+        let totals = p.live.totals;
+        let line = lines::port_line(port, w, totals.total, totals.lowest, totals.highest);
+        put(buf, at, line.as_octets())
     } else {
         at
     }
@@ -32,14 +31,11 @@ fn line_of_port(buf: &mut [u8], at: usize, port: u8, p: Port) -> usize
 pub(crate) fn port_lines(buf: &mut [u8], at: usize, b: Bench) -> usize
     requires { at + 8 * lines.port_room ≤ length buf.old }
     ensures written { lines.Written buf.old at (lines.port_lines b 8) result buf.new }
-    ensures upper_bound { result ≤ at + 8 * lines.port_room }
+    ensures at_most_its_room { result ≤ at + 8 * lines.port_room }
 {
     let mut end = at;
-    let mut i = 0;
-    while i < PORT_COUNT {
-        let p = b.ports[i];
-        i += 1;
-        end = line_of_port(buf, end, i as u8, p);
+    for (i, port) in b.ports.iter().enumerate() {
+        end = line_of_port(buf, end, i as u8 + 1, *port);
     }
     end
 }

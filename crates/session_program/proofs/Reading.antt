@@ -1,6 +1,7 @@
 -- The octets that one read after the other brings are one session, and at its end the text is that of the session. Assumes nothing.
 use Prim.Native.Nat.{ℕ, zero, suc, ◌+◌, ◌-◌, ◌≤◌, ◌<◌}
 use native.Mathlib.Omega.{arith}
+use native.Mathlib.Numerals.{add-one}
 use mathlib.Core.Path.{◌≡◌, refl, sym, ap, ◌∙◌}
 use mathlib.Core.Bool.{false, not}
 use mathlib.Core.List.{List, [], ◌++◌}
@@ -107,35 +108,33 @@ carried (one_more a h r) g = next (carried a h) r g
 pub short : {n : ℕ} {last : Chunk} {buf : List ℕ} → After n last buf → last.going ≡ On → last.left < most_octets
 short a g = (carried a g).short g
 
--- so many turns are left of the most
-pub record Turned (turns : ℕ) (last : Chunk) (buf : List ℕ) : Type 0 where
-  pub reads : ℕ
+-- after so many reads there is more to read
+pub record Turned (reads : ℕ) (last : Chunk) (buf : List ℕ) : Type 0 where
   pub after : After reads last buf
   pub going : last.going ≡ On
-  pub count : reads + turns ≡ most_reads
 
-pub begin : (turns : ℕ) (last : Chunk) (buf : List ℕ) → last ≡ first → turns ≡ most_reads → Turned turns last buf
-begin turns last buf e h = rw e (record { reads = 0; after = none_yet; going = refl; count = omega arith })
+pub begin : (last : Chunk) (buf : List ℕ) → last ≡ first → Turned 0 last buf
+begin last buf e = rw e (record { after = none_yet; going = refl })
 
-module _ {turns : ℕ} {last r : Chunk} {buf buf' : List ℕ} (t : Turned turns last buf) (b : Read last (take last.left buf) r buf') where
-  pub again : (turns' : ℕ) → turns' + 1 ≡ turns → r.going ≡ On → Turned turns' r buf'
-  again turns' h g = record { reads = suc t.reads; after = one_more t.after t.going b; going = g; count = omega (arith, t.count) }
+module _ {reads : ℕ} {last r : Chunk} {buf buf' : List ℕ} (t : Turned reads last buf) (b : Read last (take last.left buf) r buf') where
+  pub again : r.going ≡ On → Turned (reads + 1) r buf'
+  again g = rw (add-one reads) (record { after = one_more t.after t.going b; going = g })
 
   pub failed : r.going ≡ Stopped → (out : List ℕ) → Ran r buf' out
   failed g out =
       record {
-        reads = suc t.reads;
+        reads = suc reads;
         after = one_more t.after t.going b;
         most = λ o. let z : ◌≡◌ {A = ℕ} 0 1 = cc in absurd (omega arith);
         closed = λ o. let z : ◌≡◌ {A = ℕ} 0 1 = cc in absurd (omega arith);
       }
 
-pub unended : {turns : ℕ} {last : Chunk} {buf : List ℕ} → Turned turns last buf → turns ≡ 0 → (out : List ℕ) → Ran last buf out
-unended t h out =
+pub unended : {reads : ℕ} {last : Chunk} {buf : List ℕ} → Turned reads last buf → reads ≡ most_reads → (out : List ℕ) → Ran last buf out
+unended {reads} t h out =
     record {
-      reads = t.reads;
+      reads = reads;
       after = t.after;
-      most = λ o. omega (arith, t.count);
+      most = λ o. h;
       closed = λ o. let z : ◌≡◌ {A = ℕ} 0 1 = cc t.going in absurd (omega arith);
     }
 
@@ -159,11 +158,11 @@ closes {last} s out out' h e =
       front = rw front (take-append_seam text (drop (length text) out));
     }
 
-pub ended : {turns : ℕ} {last r : Chunk} {buf buf' : List ℕ} → Turned turns last buf → Read last (take last.left buf) r buf' → r.going ≡ Over
+pub ended : {reads : ℕ} {last r : Chunk} {buf buf' : List ℕ} → Turned reads last buf → Read last (take last.left buf) r buf' → r.going ≡ Over
     → (out out' : List ℕ) → closing_room ≤ length out → out' ≡ fronted (finish_text r.state (ltb 0 r.left) (length out)) out → Ran r buf' out'
-ended t b g out out' h e =
+ended {reads} t b g out out' h e =
     record {
-      reads = suc t.reads;
+      reads = suc reads;
       after = one_more t.after t.going b;
       most = λ o. let z : ◌≡◌ {A = ℕ} 0 1 = cc in absurd (omega arith);
       closed = λ o. closes (over (carried t.after t.going) b g) out out' h e;

@@ -9,8 +9,9 @@ use lib.Seq.{length-take-le, slice, length-slice, take-add, take_at, drop_at, dr
 use Rattle.record.specs.Format.{Form, nothing, part, bad, whole, form, length_of, head_octets, most_octets}
 use Rattle.record.proofs.Form.{part-short, nothing_none}
 use Rattle.session.specs.declared.State.{State}
-use Rattle.session.specs.declared.Stop.{Stop}
-use Rattle.session.specs.declared.Stop.TheVariants.{Full, Bad, Cut, End}
+use Rattle.std.specs.Prelude.{Option, Some, None}
+use Rattle.record.specs.declared.NoRecord.{NoRecord}
+use Rattle.record.specs.declared.NoRecord.TheVariants.{Bad, Cut, End}
 use Rattle.session.specs.declared.Fed.{Fed}
 use Rattle.session.specs.Run.{Entry, is_whole, records_of, rest_of, ran, line_room, stop_of, fed_of}
 use Rattle.session.proofs.Chunks.{Reads, here, reads_of, joined, fewer, all_of, ran_append, rest_unused, full_used}
@@ -19,11 +20,11 @@ use Rattle.session_program.specs.declared.Going.TheVariants.{On}
 use Rattle.session_program.specs.Kept.{to_front, going_on, chunk_of, Used, used}
 
 -- the form of what stands where a call of `feed` stopped
-abbrev form_at : Stop → Form
-form_at Full = whole
-form_at Bad = bad
-form_at Cut = part
-form_at End = nothing
+abbrev form_at : Option NoRecord → Form
+form_at None = whole
+form_at (Some Bad) = bad
+form_at (Some Cut) = part
+form_at (Some End) = nothing
 
 form-at : (f : Form) → f ≡ form_at (stop_of f)
 form-at nothing = refl
@@ -118,14 +119,14 @@ module _ {st : State} {to : ℕ} {buf₀ buf : List ℕ} {st' : State} {from : �
       }
 
   -- one that was out of room leaves less
-  pub falls : line_room ≤ room → fed.stop ≡ Full → to - (from + fed.used) < to - from
+  pub falls : line_room ≤ room → fed.stop ≡ None → to - (from + fed.used) < to - from
   falls h g =
       let f : form (rest_of (room / line_room) (slice from to buf)) ≡ whole = sym (ap form behind) ∙ form_behind ∙ ap form_at g in
       let used : 0 < fed.used = rw called (full_used st' (slice from to buf) room h f) in
       omega (arith, again.within)
 
   -- one that was not is the last
-  pub ends : {x : Stop} → fed.stop ≡ x → is_whole (form_at x) ≡ false → {r : Chunk}
+  pub ends : {x : Option NoRecord} → fed.stop ≡ x → is_whole (form_at x) ≡ false → {r : Chunk}
       → r ≡ record { state = fed.state; left = to - (from + fed.used); going = going_on (form_at x) }
       → (buf' : List ℕ) → buf' ≡ to_front (from + fed.used) (to - (from + fed.used)) buf → Used st (take to buf₀) r buf'
   ends g none = done again (form_behind ∙ ap form_at g) none

@@ -9,12 +9,24 @@ ghost use Rattle.record.specs.Format.{most_octets};
 ghost use Rattle.session.specs.Run as runs;
 ghost use Rattle.session_program.specs.Kept as kept;
 
-use session::{State, Stop};
+use record::NoRecord;
+use session::State;
 use signature::Engine;
 use std::io;
 use std::io::{Print, Read, Stderr, Stdin, Stdout};
 
-// Where a chunk leaves the run, and at its end the run itself.
+// What the program gives a run. `unreadable` goes to standard error where standard input cannot be read.
+#[derive(Clone, Copy)]
+struct Program<'a> {
+    input: Stdin,
+    output: Stdout,
+    errors: Stderr,
+    engine: Engine,
+    unreadable: &'a [u8],
+}
+
+// Where a chunk leaves the run, and at its end the run itself. No Result: a chunk whose read or write failed is one of the run too, so `Read` and
+// `Ran` speak of one type for all three, and both programs end alike after each.
 #[derive(Clone, Copy)]
 pub enum Going {
     // There is more to read.
@@ -33,44 +45,35 @@ struct Chunk {
     going: Going,
 }
 
-fn after(state: State, left: usize, going: Going) -> Chunk
-    ensures { result ≡ record { state = state; left = left; going = going } }
-{
-    Chunk { state, left, going }
-}
-
-fn copy_front(buf: &mut [u8], from: usize, to: usize)
-    requires from_le_to { from ≤ to }
-    requires to_in_bounds { to ≤ length buf.old }
-    ensures { buf.new ≡ kept.to_front from (to - from) buf.old }
-{
-    let mut i = 0;
-    while i < to - from {
-        buf[i] = buf[from + i];
-        i += 1;
-    }
-}
-
+// Copies what stands before `to` and is not used to the front.
 fn keep(state: State, buf: &mut [u8], from: usize, to: usize, going: Going) -> Chunk
     requires from_le_to { from ≤ to }
     requires to_in_bounds { to ≤ length buf.old }
-    ensures value { result ≡ record { state = state; left = to - from; going = going } }
-    ensures buf_after { buf.new ≡ kept.to_front from (to - from) buf.old }
+    ensures chunk { result ≡ record { state = state; left = to - from; going = going } }
+    ensures to_front { buf.new ≡ kept.to_front from (to - from) buf.old }
 {
-    copy_front(buf, from, to);
-    after(state, to - from, going)
+    buf.copy_within(from..to, 0);
+    Chunk {
+        state,
+        left: to - from,
+        going,
+    }
+}
+
+// Where a read or a write failed, nothing is kept.
+fn stopped(state: State) -> Chunk
+    ensures { result ≡ kept.stopped state }
+{
+    Chunk {
+        state,
+        left: 0,
+        going: Going::Stopped,
+    }
 }
 
 // Uses the whole records of buf's octets before `to`, and copies what is left to the front. A call of `feed` that is out of room has used a
 // record at least, since there is room for a line.
-fn use_records(
-    output: Stdout,
-    engine: Engine,
-    st: State,
-    buf: &mut [u8],
-    to: usize,
-    out: &mut [u8],
-) -> Chunk
+fn use_records(program: Program, st: State, buf: &mut [u8], to: usize, out: &mut [u8]) -> Chunk
     requires to_in_bounds { to ≤ length buf.old }
     requires line_room_in_bounds { runs.line_room ≤ length out.old }
     ensures { kept.Used st (take to buf.old) result buf.new }
@@ -78,36 +81,24 @@ fn use_records(
     let mut state = st;
     let mut from: usize = 0;
     loop {
-        let fed = session::feed(engine, state, &buf[from..to], out);
-        let used = fed.used;
-        let written = fed.written;
-        let stop = fed.stop;
+        let fed = session::feed(program.engine, state, &buf[from..to], out);
         state = fed.state;
-        from += used;
-        if output.write_all(&out[..written]).is_err() {
-            return after(st, 0, Going::Stopped);
+        from += fed.used;
+        if program.output.write_all(&out[..fed.written]).is_err() {
+            return stopped(st);
         }
-        match stop {
-            Stop::Full => {}
-            Stop::Bad => {
-                return keep(state, buf, from, to, Going::Over);
-            }
-            Stop::Cut => {
-                return keep(state, buf, from, to, Going::On);
-            }
-            Stop::End => {
-                return keep(state, buf, from, to, Going::On);
-            }
+        match fed.stop {
+            None => {}
+            Some(NoRecord::Bad) => return keep(state, buf, from, to, Going::Over),
+            Some(NoRecord::Cut) => return keep(state, buf, from, to, Going::On),
+            Some(NoRecord::End) => return keep(state, buf, from, to, Going::On),
         }
     }
 }
 
 // What `read` answered after it put octets behind those that are left from the last chunk. There was room for one, so none are the end.
 fn use_read(
-    output: Stdout,
-    errors: Stderr,
-    engine: Engine,
-    unreadable: &[u8],
+    program: Program,
     last: Chunk,
     buf: &mut [u8],
     got: io::Result<usize>,
@@ -118,41 +109,28 @@ fn use_read(
     requires line_room_in_bounds { runs.line_room ≤ length out.old }
     ensures { kept.Brought last got buf.old result buf.new }
 {
-    let state = last.state;
-    let have = last.left;
     match got {
         Err(_) => {
-            let _ = errors.write_all(unreadable);
-            after(state, 0, Going::Stopped)
+            let _ = program.errors.write_all(program.unreadable);
+            stopped(last.state)
         }
-        Ok(n) => {
-            if n == 0 {
-                return after(state, have, Going::Over);
-            }
-            use_records(output, engine, state, buf, have + n, out)
-        }
+        Ok(0) => Chunk {
+            going: Going::Over,
+            ..last
+        },
+        Ok(n) => use_records(program, last.state, buf, last.left + n, out),
     }
 }
 
 // One read, behind the octets that are left from the last.
-fn read_chunk(
-    input: Stdin,
-    output: Stdout,
-    errors: Stderr,
-    engine: Engine,
-    unreadable: &[u8],
-    last: Chunk,
-    buf: &mut [u8],
-    out: &mut [u8],
-) -> Chunk
+fn read_chunk(program: Program, last: Chunk, buf: &mut [u8], out: &mut [u8]) -> Chunk
     requires left_in_bounds { last.left < length buf.old }
     requires line_room_in_bounds { runs.line_room ≤ length out.old }
     ensures { kept.Read last (take last.left buf.old) result buf.new }
 {
-    let have = last.left;
-    let mut reader = input;
-    let got = reader.read(&mut buf[have..]);
-    use_read(output, errors, engine, unreadable, last, buf, got, out)
+    let mut reader = program.input;
+    let got = reader.read(&mut buf[last.left..]);
+    use_read(program, last, buf, got, out)
 }
 
 // Where octets are left, they are a 13.
@@ -163,36 +141,27 @@ fn finish(output: Stdout, last: Chunk, out: &mut [u8])
     let _ = output.write_all(&out[..n]);
 }
 
-// Nothing says that the input ends, and a loop has to: so it counts its turns down, from a number that no run uses up. The last chunk is
+// Nothing says that the input ends, and a loop has to: so it has a number of turns that no run uses up. The last chunk is
 // returned so that the contract can speak of it.
-fn run_in(
-    input: Stdin,
-    output: Stdout,
-    errors: Stderr,
-    engine: Engine,
-    unreadable: &[u8],
-    buf: &mut [u8],
-    out: &mut [u8],
-) -> Chunk
+fn run_in(program: Program, buf: &mut [u8], out: &mut [u8]) -> Chunk
     requires most_octets_in_bounds { most_octets ≤ length buf.old }
     requires closing_room_in_bounds { runs.closing_room ≤ length out.old }
     ensures { kept.Ran result buf.new out.new }
 {
-    let mut last = after(session::start(), 0, Going::On);
-    let mut turns = u64::MAX;
-    while turns > 0 {
-        turns -= 1;
-        last = read_chunk(input, output, errors, engine, unreadable, last, buf, out);
-        let going = last.going;
-        match going {
+    let mut last = Chunk {
+        state: session::start(),
+        left: 0,
+        going: Going::On,
+    };
+    for _ in 0..u64::MAX {
+        last = read_chunk(program, last, buf, out);
+        match last.going {
             Going::On => {}
             Going::Over => {
-                finish(output, last, out);
+                finish(program.output, last, out);
                 return last;
             }
-            Going::Stopped => {
-                return last;
-            }
+            Going::Stopped => return last,
         }
     }
     last
@@ -204,8 +173,12 @@ pub fn run(input: Stdin, output: Stdout, errors: Stderr, engine: Engine, unreada
 {
     let mut buf = [0u8; 65536];
     let mut out = [0u8; 262144];
-    let last = run_in(
-        input, output, errors, engine, unreadable, &mut buf, &mut out,
-    );
-    last.going
+    let program = Program {
+        input,
+        output,
+        errors,
+        engine,
+        unreadable,
+    };
+    run_in(program, &mut buf, &mut out).going
 }

@@ -1,5 +1,5 @@
--- The premises of `detects` and `one_table` can be met: computed. Those of `look_all` are met by the two arrays (proofs of `signature16` and
--- `signature32`). Assumes nothing.
+-- The premises of `detects` and `one_table` can be met: computed. Those of `look_all` are met by the two arrays and the law
+-- `fits` of u16 and u32 (src/short.rt and long.rt). Assumes nothing.
 use mathlib.Core.Path.{◌≡◌, refl}
 use mathlib.Core.List.{List, [], ◌∷◌, ◌++◌}
 use Prim.Native.Nat.{ℕ}

@@ -16,6 +16,7 @@ use Rattle.gf2.proofs.Bits.{bits-length, bits-xor, bits-zero, bits-mod, bits_par
 use Rattle.gf2.proofs.Table.{by_table_lem}
 use Rattle.signature.specs.Signature.{shift_in, shift_in_all, octet, signature}
 use Rattle.signature.specs.Lookup.{division, Table, look_up, look_ups, octet_by_table, by_table}
+use Rattle.signature.specs.Width.{Fits}
 use Rattle.signature.proofs.Bridge.{shift_in_all-bits, turns_lt}
 
 shift_in_all-append : (w g r : ℕ) (ds es : List Bool) → shift_in_all w g r (ds ++ es) ≡ shift_in_all w g (shift_in_all w g r ds) es
@@ -99,3 +100,14 @@ module _ (w g n k : ℕ) (wide : w ≡ n + k) (hg : g < 2 ^ w) (hn : 0 < n) wher
     unfolding by_table signature
     look_all r [] = refl
     look_all r (x ∷ xs) = ap (λ (s : ℕ). by_table w n table s xs) (look_octet r x) ∙ look_all (octet w g r x) xs
+
+-- the same of what a register keeps to
+module _ {w g n : ℕ} (fits : Fits w g n) {table : List ℕ} (t : Table w g n table) where
+  wide : w ≡ n + (w - n)
+  wide = omega (arith, fits.within)
+
+  pub look_register : (r x : ℕ) → octet_by_table w n table r x ≡ octet w g r x
+  look_register = look_octet w g n (w - n) wide fits.generator fits.some fits.whole t
+
+  pub look_registers : (r : ℕ) (xs : List ℕ) → by_table w n table r xs ≡ signature w g r xs
+  look_registers = look_all w g n (w - n) wide fits.generator fits.some fits.whole t

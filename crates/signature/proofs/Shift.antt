@@ -1,6 +1,6 @@
 -- The loop of Figures D.3 and D.5 as code runs it, over the width and the generator: the data octet shifts left beside the register, and each turn
 -- compares two top bits. Assumes nothing.
-use mathlib.Core.Path.{◌≡◌, refl, sym, ap, ap₂, ◌∙◌}
+use mathlib.Core.Path.{◌≡◌, refl, sym, ap, ◌∙◌}
 use mathlib.Core.Bool.{Bool, beq, true, false, cond, not}
 use mathlib.Core.List.{List, [], ◌∷◌, ◌++◌}
 use Prim.Native.Nat.{ℕ, zero, suc, ◌+◌, ◌-◌, ◌*◌, ◌/◌, ◌%◌, ◌^◌, ◌<◌, ◌≤◌}
@@ -68,13 +68,24 @@ differs true false = refl
 differs false true = refl
 differs false false = refl
 
--- a turn by its test, at the width k + 1
+-- a turn of the register by its test, at the width k + 1, for the data bit d
+pub tested : (k g r : ℕ) (d t : Bool) {r' : ℕ}
+    → not (beq (not (eqb (bit_and r (2 ^ k)) 0)) d) ≡ t
+    → r' ≡ cond t (bit_xor (r * 2 % 2 ^ suc k) g) (r * 2 % 2 ^ suc k)
+    → r' ≡ shift_in (suc k) g r d
+unfolding shift_in
+tested k g r d t test e =
+    let same : t ≡ top (bits (suc k) r) ⊻ d = sym test ∙ differs (not (eqb (bit_and r (2 ^ k)) 0)) d ∙ ap (λ (b : Bool). b ⊻ d) (masked r k) in
+    e ∙ ap (λ (b : Bool). cond b (bit_xor (r * 2 % 2 ^ suc k) g) (r * 2 % 2 ^ suc k)) same
+
+-- a turn of the loop, at any width, by the octet's top bit
+pub turned : {w g register octet₀ r x i r' : ℕ} → r' ≡ shift_in w g r (not (eqb (bit_and x 128) 0))
+    → Turning w g register octet₀ r x i → i ≤ 8 → Turning w g register octet₀ r' (x * 2 % 256) (i + 1)
+turned {x = x} e inv h = rw (e, masked x 7) (next_turn inv h)
+
+-- both: a turn of the loop by its test, at the width k + 1
 pub turn : (k : ℕ) {g register octet₀ r x i r' : ℕ} (t : Bool)
     → not (beq (not (eqb (bit_and r (2 ^ k)) 0)) (not (eqb (bit_and x 128) 0))) ≡ t
     → r' ≡ cond t (bit_xor (r * 2 % 2 ^ suc k) g) (r * 2 % 2 ^ suc k)
     → Turning (suc k) g register octet₀ r x i → i ≤ 8 → Turning (suc k) g register octet₀ r' (x * 2 % 256) (i + 1)
-unfolding shift_in
-turn k {g} {register} {octet₀} {r} {x} {i} {r'} t test e inv h =
-    let same : t ≡ top (bits (suc k) r) ⊻ top (bits 8 x) = sym test ∙ differs (not (eqb (bit_and r (2 ^ k)) 0)) (not (eqb (bit_and x 128) 0)) ∙ ap₂ ◌⊻◌ (masked r k) (masked x 7) in
-    let step : r' ≡ shift_in (suc k) g r (top (bits 8 x)) = e ∙ ap (λ (b : Bool). cond b (bit_xor (r * 2 % 2 ^ suc k) g) (r * 2 % 2 ^ suc k)) same in
-    rw step (next_turn inv h)
+turn k {g} {r = r} {x = x} t test e inv h = turned (tested k g r (not (eqb (bit_and x 128) 0)) t test e) inv h

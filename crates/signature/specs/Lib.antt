@@ -1,3 +1,4 @@
 pub mod Signature
 pub mod Lookup
+pub mod Width
 pub mod Engines

@@ -1,8 +1,8 @@
-// The short signature: 16 bits.
-ghost use Rattle.std.specs.Prelude.{◌≡◌};
+// The short signature's register: 16 bits.
 ghost use Rattle.gf2.specs.Generators.{generator16};
-ghost use Rattle.signature.specs.Signature.{octet, signature};
-ghost use Rattle.signature.specs.Lookup.{Table, look_up, by_table};
+ghost use Rattle.std.proofs.Common.{rules};
+
+use crate::{Register, Signing};
 
 // 000 Table D.4.
 const TABLE16: [u16; 256] = [
@@ -30,41 +30,46 @@ const TABLE16: [u16; 256] = [
     0x174E, 0x59E5, 0x8A18, 0xC4B3,
 ];
 
-pub fn table16() -> [u16; 256]
-    ensures { Table 16 generator16 8 result }
-{
-    TABLE16
-}
+impl Register for u16 {
+    type Table = [u16; 256];
 
-// One octet into the register (000 Figure D.4).
-pub fn step16_by(table: &[u16; 256], register: u16, x: u8) -> u16
-    ensures { result ≡ look_up 16 8 table.now register x }
-{
-    table[(((register >> 8) ^ (x as u16)) % 256) as usize] ^ (register << 8)
-}
+    ghost width = { 16 };
 
-pub fn signature16_by(table: &[u16; 256], seed: u16, octets: &[u8]) -> u16
-    ensures { result ≡ by_table 16 8 table.now seed octets.now }
-{
-    let mut register = seed;
-    let mut i = 0;
-    while i < octets.len() {
-        register = step16_by(table, register, octets[i]);
-        i += 1;
+    ghost generator = { generator16 };
+
+    ghost index_bits = { 8 };
+
+    ghost number = { λ r. r };
+
+    ghost entries = { λ table. table };
+
+    ghost lent = { λ signing. signing.short.now };
+
+    ghost fits = { Prim.search rules };
+
+    fn table() -> [u16; 256] {
+        TABLE16
     }
-    register
-}
 
-pub fn step16(register: u16, x: u8) -> u16
-    ensures { result ≡ octet 16 generator16 register x }
-{
-    let table = table16();
-    step16_by(&table, register, x)
-}
+    fn zeros() -> [u16; 256] {
+        [0; 256]
+    }
 
-pub fn signature16(seed: u16, octets: &[u8]) -> u16
-    ensures { result ≡ signature 16 generator16 seed octets.now }
-{
-    let table = table16();
-    signature16_by(&table, seed, octets)
+    fn lent<'a>(signing: &'a Signing<'a>) -> &'a [u16; 256] {
+        signing.short
+    }
+
+    // 000 Figure D.4.
+    fn look_up(table: &[u16; 256], register: u16, x: u8) -> u16 {
+        table[(((register >> 8) ^ (x as u16)) % 256) as usize] ^ (register << 8)
+    }
+
+    // 000 Figure D.3.
+    fn turn(self, bit: bool) -> u16 {
+        if (self & 0x8000 != 0) != bit {
+            (self << 1) ^ 0x4EAB
+        } else {
+            self << 1
+        }
+    }
 }

@@ -2,19 +2,17 @@
 use mathlib.Core.Path.{◌≡◌, refl, sym, ap, ap₂, ◌∙◌}
 use mathlib.Core.Bool.{Bool, true, false, cond, ◌&&◌, and-eq-true_iff}
 use mathlib.Core.List.{List, [], ◌∷◌, ◌++◌}
-use Prim.Native.Nat.{ℕ, ◌+◌, ◌-◌, ◌/◌, ◌%◌, ◌≤◌}
+use Prim.Native.Nat.{ℕ, ◌+◌, ◌/◌, ◌%◌, ◌≤◌}
 use native.Mathlib.Omega.{arith}
 use borrow.Author.Tests.{eqb-true, eq-eqb}
-use borrow.Rule.Slice.PartMut.{mid_of, put_mid}
 use lib.Dec.{eqb}
-use lib.ListN.{length, take, drop, length-append, length-replicate, length-take, length-drop}
-use lib.Seq.{length-take-le, take-length}
+use lib.ListN.{length, take, length-append, length-replicate}
+use lib.Seq.{length-take-le}
 use Rattle.ranges.specs.Fields.{safety_octets}
 use Rattle.block.specs.declared.Params.{Params}
 use Rattle.spdu.specs.Signature.{replaced}
 use Rattle.spdu.specs.Built.{control_octet, signature_octets, contents_with, spdu_with, process_sent, request_built}
 use Rattle.spdu.specs.Image.{composer_holds, composed}
-use Rattle.spdu.proofs.Join.{joined}
 
 -- an SPDU is as long as its process octets and H
 pub spdu-length : (sign : ℕ → List ℕ → ℕ) (mode : ℕ) (process : List ℕ) (port control : ℕ) → length (spdu_with sign mode process port control) ≡ length process + safety_octets mode
@@ -59,27 +57,3 @@ module _ (sign : ℕ → List ℕ → ℕ) (p : Params) (mCount : ℕ) (setSD ch
   -- R3: the SPDU stands first in the image, and the other data behind it
   pub spdu-first : composed sign p mCount setSD chFAckReq process other image ≡ request_built sign p mCount setSD chFAckReq process (take o image) ++ other
   spdu-first = ap (λ (b : Bool). cond b (spdu ++ other) image) holds ∙ ap (λ (l : List ℕ). l ++ other) (sym built)
-
-  built-length : length spdu ≡ o
-  built-length = spdu-length sign p.FSP_ProtMode (process_sent setSD process) p.FSP_Port (control_octet mCount setSD chFAckReq) ∙ omega (arith, sent-length setSD process, parts.0)
-
-  module _ (left second : List ℕ) (one : left ≡ request_built sign p mCount setSD chFAckReq process (take o image)) where
-    is_spdu : left ≡ spdu
-    is_spdu = one ∙ built
-
-    left_length : length left ≡ o
-    left_length = ap length is_spdu ∙ built-length
-
-    pub first-length : length (left ++ drop o image) ≡ length image
-    first-length = length-append left (drop o image) ∙ omega (arith, left_length, length-drop o image, within)
-
-    pub room : length other ≤ length (mid_of o (length (left ++ drop o image) - o) (left ++ drop o image))
-    room = omega (arith, length-take (length (left ++ drop o image) - o) (drop o (left ++ drop o image)), length-drop o (left ++ drop o image), first-length, parts.1.0, parts.1.1)
-
-    pub whole : second ≡ take (length other) other ++ drop (length other) (mid_of o (length (left ++ drop o image) - o) (left ++ drop o image))
-        → put_mid o (length (left ++ drop o image) - o) (left ++ drop o image) second ≡ composed sign p mCount setSD chFAckReq process other image
-    whole two =
-        joined left other image (left ++ drop o image) second o (omega (arith, left_length, parts.1.0, parts.1.1)) (sym left_length)
-        (ap₂ ◌++◌ (sym (take-length left)) (ap (λ (k : ℕ). drop k image) (sym left_length))) two
-        ∙ ap (λ (l : List ℕ). l ++ other) is_spdu
-        ∙ ap (λ (b : Bool). cond b (spdu ++ other) image) (sym holds)

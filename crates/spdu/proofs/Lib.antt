@@ -1,7 +1,5 @@
 pub mod Engines
 pub mod Zeros
-pub mod Join
-pub mod Trailer
 pub mod Buffers
 pub mod Parts
 pub mod Composed

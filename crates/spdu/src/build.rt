@@ -1,202 +1,130 @@
 // Building an SPDU in a buffer that is lent.
-ghost use Rattle.std.specs.Prelude.{◌≡◌, true, [], ◌∷◌, ◌++◌, ◌+◌, ◌/◌, ◌%◌, ◌≤◌, length, replicate};
+ghost use Rattle.std.specs.Prelude.{◌≡◌, ◌++◌, length};
 ghost use Rattle.ranges.specs.Fields.{safety_octets};
 ghost use Rattle.spdu.specs.Signature.{by_engine, replaced};
 ghost use Rattle.spdu.specs.Built as built;
 
+use crate::control::{Control, Status};
 use crate::read::replace;
 use answer::Answer;
 use block::Params;
-use signature::Engine;
+use signature::Signing;
 
 // The signature of process octets, port number and control octet, a zero replaced.
-fn seal(
-    engine: Engine,
-    short: &[u16; 256],
-    long: &[u32; 16],
-    mode: u8,
-    process: &[u8],
-    port: u8,
-    control: u8,
-) -> u32
-    ensures { result ≡ replaced (by_engine engine short.now long.now mode (built.contents_with process.now port control)) }
+// Each width has a register of its own type (crate signature), so the modes are two branches.
+fn seal(signing: &Signing, mode: u8, process: &[u8], port: u8, control: u8) -> u32
+    ensures { result ≡ replaced (by_engine signing.now.engine signing.now.short.now signing.now.long.now mode (built.contents_with process.now port control)) }
 {
     if mode == 1 {
-        let register = signature::signature16_with(engine, short, 1, process);
-        let register = signature::step16_with(engine, short, register, port);
-        replace(signature::step16_with(engine, short, register, control) as u32)
+        let register = signing.sign::<u16>(1, process);
+        let register = signing.step::<u16>(register, port);
+        replace(signing.step::<u16>(register, control) as u32)
     } else {
-        let register = signature::signature32_with(engine, long, 1, process);
-        let register = signature::step32_with(engine, long, register, port);
-        replace(signature::step32_with(engine, long, register, control))
+        let register = signing.sign::<u32>(1, process);
+        let register = signing.step::<u32>(register, port);
+        replace(signing.step::<u32>(register, control))
     }
 }
 
-fn short_trailer(port: u8, control: u8, x: u32) -> [u8; 4]
-    ensures { result ≡ port ∷ control ∷ x / 256 % 256 ∷ x % 256 ∷ [] }
-{
-    [port, control, (x / 256 % 256) as u8, (x % 256) as u8]
-}
-
-fn long_trailer(port: u8, control: u8, x: u32) -> [u8; 6]
-    ensures { result ≡ port ∷ control ∷ x / 16777216 % 256 ∷ x / 65536 % 256 ∷ x / 256 % 256 ∷ x % 256 ∷ [] }
-{
-    [
-        port,
-        control,
-        (x / 16777216 % 256) as u8,
-        (x / 65536 % 256) as u8,
-        (x / 256 % 256) as u8,
-        (x % 256) as u8,
-    ]
-}
-
-fn join(front: &[u8], back: &[u8], out: &mut [u8])
-    requires { length out.old ≡ length front.now + length back.now }
-    ensures { out.new ≡ front.now ++ back.now }
-{
-    let n = octets::copy(front, out);
-    octets::copy(back, &mut out[n..]);
-}
-
-fn write(
-    engine: Engine,
-    short: &[u16; 256],
-    long: &[u32; 16],
+// Port number, control octet and signature, behind the process octets that they stand for.
+fn write_trailer(
+    signing: &Signing,
     mode: u8,
     process: &[u8],
     port: u8,
     control: u8,
-    out: &mut [u8],
+    trailer: &mut [u8],
 )
-    requires { length out.old ≡ length process.now + safety_octets mode }
-    ensures { out.new ≡ built.spdu_with (by_engine engine short.now long.now) mode process.now port control }
+    requires { length trailer.old ≡ safety_octets mode }
+    ensures { process.now ++ trailer.new ≡ built.spdu_with (by_engine signing.now.engine signing.now.short.now signing.now.long.now) mode process.now port control }
 {
-    let x = seal(engine, short, long, mode, process, port, control);
+    let [a, b, c, d] = seal(signing, mode, process, port, control).to_be_bytes();
     if mode == 1 {
-        let trailer = short_trailer(port, control, x);
-        join(process, &trailer, out);
+        trailer.copy_from_slice(&[port, control, c, d]);
     } else {
-        let trailer = long_trailer(port, control, x);
-        join(process, &trailer, out);
+        trailer.copy_from_slice(&[port, control, a, b, c, d]);
     }
 }
 
 pub(crate) fn buffers_hold(mode: u8, spdu: u8, process: usize, out: usize) -> bool
-    ensures value { result ≡ built.buffers_hold mode spdu process out }
-    ensures at_most_255 { result ≡ true → out ≤ 255 }
+    ensures { result ≡ built.buffers_hold mode spdu process out }
 {
     let n = spdu as usize;
     let safety = ranges::safety_octets(mode) as usize;
-    if n < safety {
-        return false;
+    (n.checked_sub(safety) == Some(process)) & (out == n)
+}
+
+// The process octets that are sent: as lent, or zeros of the same number.
+fn write_process(setSD: bool, process: &[u8], out: &mut [u8])
+    requires { length out.old ≡ length process.now }
+    ensures { out.new ≡ built.process_sent setSD process.now }
+{
+    if setSD {
+        out.fill(0);
+    } else {
+        out.copy_from_slice(process);
     }
-    (process == n - safety) & (out == n)
-}
-
-fn bit(b: bool, weight: u8) -> u8
-    ensures { (result ≡ built.bit_in b weight) × (result ≤ weight) }
-{
-    if b { weight } else { 0 }
-}
-
-fn control_octet(MCount: u8, setSD: bool, ChFAckReq: bool) -> u8
-    ensures { result ≡ built.control_octet MCount setSD ChFAckReq }
-{
-    MCount % 8 * 32 + bit(setSD, 2) + bit(ChFAckReq, 1)
-}
-
-fn status_octet(DCount_i: u8, SDset: bool, DCommErr: bool, DTimeout: bool) -> u8
-    ensures { result ≡ built.status_octet DCount_i SDset DCommErr DTimeout }
-{
-    DCount_i % 8 * 32 + bit(SDset, 4) + bit(DCommErr, 2) + bit(DTimeout, 1)
-}
-
-// As `write`, with n zeros for process octets.
-fn write_zeros(
-    engine: Engine,
-    short: &[u16; 256],
-    long: &[u32; 16],
-    mode: u8,
-    n: usize,
-    port: u8,
-    control: u8,
-    out: &mut [u8],
-)
-    requires { (length out.old ≡ n + safety_octets mode) × (n ≤ 255) }
-    ensures { out.new ≡ built.spdu_with (by_engine engine short.now long.now) mode (replicate n 0) port control }
-{
-    let zeros = [0u8; 255];
-    write(engine, short, long, mode, &zeros[..n], port, control, out);
-}
-
-// All zeros.
-fn clear(out: &mut [u8])
-    requires { length out.old ≤ 255 }
-    ensures { out.new ≡ replicate (length out.old) 0 }
-{
-    let zeros = [0u8; 255];
-    let n = out.len();
-    octets::copy(&zeros[..n], out);
 }
 
 // The FS-Master's SPDU, into exactly SPDUOutLength octets.
 pub fn build_request_by(
-    engine: Engine,
-    short: &[u16; 256],
-    long: &[u32; 16],
+    signing: &Signing,
     p: Params,
-    MCount: u8,
-    setSD: bool,
-    ChFAckReq: bool,
+    control: Control,
     process: &[u8],
     out: &mut [u8],
 ) -> Answer
     ensures value { result ≡ built.built_as (built.buffers_hold p.FSP_ProtMode p.SPDUOutLength (length process.now) (length out.old)) }
-    ensures out_after { out.new ≡ built.request_built (by_engine engine short.now long.now) p MCount setSD ChFAckReq process.now out.old }
+    ensures out_after { out.new ≡ built.request_built (by_engine signing.now.engine signing.now.short.now signing.now.long.now) p control.MCount control.setSD control.ChFAckReq process.now out.old }
 {
-    let mode = p.FSP_ProtMode;
-    let port = p.FSP_Port;
-    let n = process.len();
-    if buffers_hold(mode, p.SPDUOutLength, n, out.len()) {
-        let control = control_octet(MCount, setSD, ChFAckReq);
-        if setSD {
-            write_zeros(engine, short, long, mode, n, port, control, out);
-        } else {
-            write(engine, short, long, mode, process, port, control, out);
-        }
-        return Answer::Taken;
+    if !buffers_hold(p.FSP_ProtMode, p.SPDUOutLength, process.len(), out.len()) {
+        return Answer::Buffer;
     }
-    Answer::Buffer
+    let n = process.len();
+    let (sent, trailer) = out.split_at_mut(n);
+    write_process(control.setSD, process, sent);
+    write_trailer(
+        signing,
+        p.FSP_ProtMode,
+        sent,
+        p.FSP_Port,
+        control.octet(),
+        trailer,
+    );
+    Answer::Taken
 }
 
 // The FS-Device's SPDU, into exactly SPDUInLength octets; zeros until it has responded.
+// `responded` stands beside the status and not around it as an Option: the FS-Device's state has both from the start (crate fs_device), and so C
+// lends them.
 pub fn build_response_by(
-    engine: Engine,
-    short: &[u16; 256],
-    long: &[u32; 16],
+    signing: &Signing,
     p: Params,
     responded: bool,
-    DCount_i: u8,
-    SDset: bool,
-    DCommErr: bool,
-    DTimeout: bool,
+    status: Status,
     process: &[u8],
     out: &mut [u8],
 ) -> Answer
     ensures value { result ≡ built.built_as (built.buffers_hold p.FSP_ProtMode p.SPDUInLength (length process.now) (length out.old)) }
-    ensures out_after { out.new ≡ built.response_built (by_engine engine short.now long.now) p responded DCount_i SDset DCommErr DTimeout process.now out.old }
+    ensures out_after { out.new ≡ built.response_built (by_engine signing.now.engine signing.now.short.now signing.now.long.now) p responded status.DCount_i status.SDset status.DCommErr status.DTimeout process.now out.old }
 {
-    let mode = p.FSP_ProtMode;
-    let port = p.FSP_Port;
-    if buffers_hold(mode, p.SPDUInLength, process.len(), out.len()) {
-        if responded {
-            let status = status_octet(DCount_i, SDset, DCommErr, DTimeout);
-            write(engine, short, long, mode, process, port, status, out);
-        } else {
-            clear(out);
-        }
-        return Answer::Taken;
+    if !buffers_hold(p.FSP_ProtMode, p.SPDUInLength, process.len(), out.len()) {
+        return Answer::Buffer;
     }
-    Answer::Buffer
+    if responded {
+        let n = process.len();
+        let (sent, trailer) = out.split_at_mut(n);
+        sent.copy_from_slice(process);
+        write_trailer(
+            signing,
+            p.FSP_ProtMode,
+            process,
+            p.FSP_Port,
+            status.octet(),
+            trailer,
+        );
+    } else {
+        out.fill(0);
+    }
+    Answer::Taken
 }

@@ -5,59 +5,42 @@ ghost use Rattle.spdu.specs.Built.{built_as};
 ghost use Rattle.spdu.specs.Image as image;
 
 use crate::build::{buffers_hold, build_request_by};
+use crate::control::Control;
 use crate::read::{all_zero, process_octets};
 use answer::Answer;
 use block::Params;
 use scl::Mark;
-use signature::Engine;
+use signature::Signing;
 
-fn composer_fits(mode: u8, o: u8, rest: u8, process: usize, other: usize, octets: usize) -> bool
-    ensures { result ≡ image.composer_fits mode o rest process other octets }
+fn composer_holds(p: Params, process: usize, other: usize, octets: usize) -> bool
+    ensures { result ≡ image.composer_holds p process other octets }
 {
-    let n = o as usize;
-    buffers_hold(mode, o, process, n) & (other == rest as usize) & (octets == n + rest as usize)
+    let o = p.SPDUOutLength as usize;
+    let rest = p.OutputDataLength as usize;
+    buffers_hold(p.FSP_ProtMode, p.SPDUOutLength, process, o)
+        & (other == rest)
+        & (octets == o + rest)
 }
 
 // The outgoing image of the FS-Master: the SPDU is built in its place, and the other data stands behind it.
 pub fn compose_by(
-    engine: Engine,
-    short: &[u16; 256],
-    long: &[u32; 16],
+    signing: &Signing,
     p: Params,
-    MCount: u8,
-    setSD: bool,
-    ChFAckReq: bool,
+    control: Control,
     process: &[u8],
     other: &[u8],
     octets: &mut [u8],
 ) -> Answer
     ensures value { result ≡ built_as (image.composer_holds p (length process.now) (length other.now) (length octets.old)) }
-    ensures octets_after { octets.new ≡ image.composed (by_engine engine short.now long.now) p MCount setSD ChFAckReq process.now other.now octets.old }
+    ensures octets_after { octets.new ≡ image.composed (by_engine signing.now.engine signing.now.short.now signing.now.long.now) p control.MCount control.setSD control.ChFAckReq process.now other.now octets.old }
 {
-    let o = p.SPDUOutLength as usize;
-    if composer_fits(
-        p.FSP_ProtMode,
-        p.SPDUOutLength,
-        p.OutputDataLength,
-        process.len(),
-        other.len(),
-        octets.len(),
-    ) {
-        build_request_by(
-            engine,
-            short,
-            long,
-            p,
-            MCount,
-            setSD,
-            ChFAckReq,
-            process,
-            &mut octets[..o],
-        );
-        octets::copy(other, &mut octets[o..]);
-        return Answer::Taken;
+    if !composer_holds(p, process.len(), other.len(), octets.len()) {
+        return Answer::Buffer;
     }
-    Answer::Buffer
+    let (spdu, rest) = octets.split_at_mut(p.SPDUOutLength as usize);
+    build_request_by(signing, p, control, process, spdu);
+    rest.copy_from_slice(other);
+    Answer::Taken
 }
 
 fn splitter_holds(p: Params, n: usize) -> bool
@@ -77,38 +60,38 @@ pub fn split(p: Params, octets: &[u8]) -> Answer
     }
 }
 
+// The SPDU and the other data; of an image of another length nothing.
+fn parts(p: Params, octets: &[u8]) -> (&[u8], &[u8])
+    ensures spdu { result.0.now ≡ image.spdu_part p octets.now }
+    ensures other { result.1.now ≡ image.other_part p octets.now }
+{
+    if splitter_holds(p, octets.len()) {
+        octets.split_at(p.SPDUInLength as usize)
+    } else {
+        (&octets[..0], &octets[..0])
+    }
+}
+
 pub fn spdu_part(p: Params, octets: &[u8]) -> &[u8]
     ensures { result.now ≡ image.spdu_part p octets.now }
 {
-    let m = p.SPDUInLength as usize;
-    if splitter_holds(p, octets.len()) {
-        &octets[..m]
-    } else {
-        &octets[..0]
-    }
+    parts(p, octets).0
 }
 
 pub fn other_part(p: Params, octets: &[u8]) -> &[u8]
     ensures { result.now ≡ image.other_part p octets.now }
 {
-    let m = p.SPDUInLength as usize;
-    if splitter_holds(p, octets.len()) {
-        &octets[m..]
-    } else {
-        &octets[..0]
-    }
+    parts(p, octets).1
 }
 
 // What a call hands on: process octets of the SPDU, the safe values, or nothing.
 pub fn handed_on<'a>(mark: Mark, mode: u8, spdu: &'a [u8], safe: &'a [u8]) -> &'a [u8]
     ensures { result.now ≡ image.handed_on mark mode spdu.now safe.now }
 {
-    let n = process_octets(mode, spdu.len());
     match mark {
-        Mark::Fresh => &spdu[..n],
+        Mark::Fresh => &spdu[..process_octets(mode, spdu.len())],
         Mark::Safe => safe,
-        Mark::GoesOn => &safe[..0],
-        Mark::Nothing => &safe[..0],
+        Mark::GoesOn | Mark::Nothing => &safe[..0],
     }
 }
 
@@ -116,8 +99,5 @@ pub fn handed_on<'a>(mark: Mark, mode: u8, spdu: &'a [u8], safe: &'a [u8]) -> &'
 pub fn safe_values_hold(mode: u8, n: usize, safe: &[u8]) -> bool
     ensures { result ≡ image.safe_values_hold mode n safe.now }
 {
-    if safe.len() != process_octets(mode, n) {
-        return false;
-    }
-    all_zero(safe)
+    safe.len() == process_octets(mode, n) && all_zero(safe)
 }

@@ -1,69 +1,47 @@
 // Reading a received SPDU.
-ghost use Rattle.std.specs.Prelude.{◌≡◌, [], ◌+◌, ◌≤◌, get_or, take, length};
+ghost use Rattle.std.specs.Prelude.{◌≡◌, ◌+◌, ◌≤◌, get_or, length};
+ghost use Rattle.ranges.specs.Fields.{safety_octets};
 ghost use Rattle.spdu.specs.Signature.{by_engine, replaced};
 ghost use Rattle.spdu.specs.Places as places;
 ghost use Rattle.spdu.specs.Fields as fields;
 
-use block::{Params, word};
+use block::Params;
 use scl::{Request, Response};
-use signature::Engine;
+use signature::Signing;
 
 // How many process octets an SPDU of n octets has.
 pub(crate) fn process_octets(mode: u8, n: usize) -> usize
     ensures { result ≡ places.process_octets mode n }
 {
-    let safety = ranges::safety_octets(mode) as usize;
-    if safety <= n { n - safety } else { 0 }
+    n.saturating_sub(ranges::safety_octets(mode) as usize)
 }
 
 fn octet(s: &[u8], at: usize) -> u8
     ensures { result ≡ get_or s.now at 0 }
 {
-    if at < s.len() { s[at] } else { 0 }
-}
-
-fn first(s: &[u8], n: usize) -> &[u8]
-    ensures { result.now ≡ take n s.now }
-{
-    if n <= s.len() { &s[..n] } else { s }
+    s.get(at).copied().unwrap_or(0)
 }
 
 // The signature that the contents compute, before a zero is replaced.
-pub(crate) fn sign(
-    engine: Engine,
-    short: &[u16; 256],
-    long: &[u32; 16],
-    mode: u8,
-    contents: &[u8],
-) -> u32
-    ensures { result ≡ by_engine engine short.now long.now mode contents.now }
+// Each width has a register of its own type (crate signature), so the modes are two branches.
+#[inline(always)]
+fn sign(signing: &Signing, mode: u8, contents: &[u8]) -> u32
+    ensures { result ≡ by_engine signing.now.engine signing.now.short.now signing.now.long.now mode contents.now }
 {
     if mode == 1 {
-        signature::signature16_with(engine, short, 1, contents) as u32
+        signing.sign::<u16>(1, contents) as u32
     } else {
-        signature::signature32_with(engine, long, 1, contents)
+        signing.sign::<u32>(1, contents)
     }
 }
 
 pub(crate) fn replace(x: u32) -> u32
     ensures { result ≡ replaced x }
 {
-    if x == 0 { 1 } else { x }
+    x.max(1)
 }
 
-// The signature that an SPDU carries, from `at` on: 2 behind the process octets, of which there are at most 255, so that no place overflows.
-fn carried(mode: u8, s: &[u8], at: usize) -> u32
-    requires { at ≤ 257 }
-    ensures { result ≡ places.carried_at mode s.now at }
-{
-    let high = word(octet(s, at), octet(s, at + 1));
-    if mode == 1 {
-        return high as u32;
-    }
-    let low = word(octet(s, at + 2), octet(s, at + 3));
-    high as u32 * 65536 + low as u32
-}
-
+// A loop: `s.iter().all(|&x| x == 0)` was tried and proves, but takes some five instructions a record more.
 pub(crate) fn all_zero(s: &[u8]) -> bool
     ensures { result ≡ places.is_all_zero s.now }
 {
@@ -77,36 +55,6 @@ pub(crate) fn all_zero(s: &[u8]) -> bool
     true
 }
 
-fn signature_holds(engine: Engine, short: &[u16; 256], long: &[u32; 16], mode: u8, s: &[u8]) -> bool
-    requires { length s.now ≤ 255 }
-    ensures { result ≡ places.is_signed (by_engine engine short.now long.now) mode s.now }
-{
-    let end = process_octets(mode, s.len()) + 2;
-    let right = replace(sign(engine, short, long, mode, first(s, end)));
-    carried(mode, s, end) == right
-}
-
-// Of an SPDU that has all safety octets: no place is past its end, so none is tested.
-fn short_holds(engine: Engine, short: &[u16; 256], s: &[u8]) -> bool
-    requires { 4 ≤ length s.now }
-    ensures { result ≡ places.is_signed (by_engine engine short.now []) 1 s.now }
-{
-    let end = s.len() - 2;
-    let right = replace(signature::signature16_with(engine, short, 1, &s[..end]) as u32);
-    word(s[end], s[end + 1]) as u32 == right
-}
-
-fn long_holds(engine: Engine, long: &[u32; 16], s: &[u8]) -> bool
-    requires { 6 ≤ length s.now }
-    ensures { result ≡ places.is_signed (by_engine engine [] long.now) 2 s.now }
-{
-    let end = s.len() - 4;
-    let right = replace(signature::signature32_with(engine, long, 1, &s[..end]));
-    let high = word(s[end], s[end + 1]);
-    let low = word(s[end + 2], s[end + 3]);
-    high as u32 * 65536 + low as u32 == right
-}
-
 // What an SPDU carries behind its process octets; `control` is the status octet of a response.
 #[derive(Clone, Copy)]
 struct Trailer {
@@ -115,62 +63,69 @@ struct Trailer {
     signature_holds: bool,
 }
 
-// Each place is tested, as an SPDU that lacks safety octets asks. None such is configured.
-fn cut_trailer_by(
-    engine: Engine,
-    short: &[u16; 256],
-    long: &[u32; 16],
-    mode: u8,
-    s: &[u8],
-) -> Trailer
-    requires { length s.now ≤ 255 }
-    ensures { result ≡ fields.trailer_of (by_engine engine short.now long.now) mode s.now }
+// The signature that an SPDU carries, from `at` on: 2 behind the process octets. Where all its octets are there they are read at once.
+fn carried(mode: u8, s: &[u8], at: usize) -> u32
+    requires { at ≤ length s.now + 2 }
+    ensures { result ≡ places.carried_at mode s.now at }
 {
-    let at = process_octets(mode, s.len());
-    Trailer {
-        port: octet(s, at),
-        control: octet(s, at + 1),
-        signature_holds: signature_holds(engine, short, long, mode, s),
+    let octets = if mode == 1 { 2 } else { 4 };
+    match (mode == 1, at + octets <= s.len()) {
+        (true, true) => u16::from_be_bytes([s[at], s[at + 1]]) as u32,
+        (true, false) => u16::from_be_bytes([octet(s, at), octet(s, at + 1)]) as u32,
+        (false, true) => u32::from_be_bytes([s[at], s[at + 1], s[at + 2], s[at + 3]]),
+        (false, false) => u32::from_be_bytes([
+            octet(s, at),
+            octet(s, at + 1),
+            octet(s, at + 2),
+            octet(s, at + 3),
+        ]),
     }
 }
 
-// The places are worked out once, from the end.
-fn trailer_by(engine: Engine, short: &[u16; 256], long: &[u32; 16], mode: u8, s: &[u8]) -> Trailer
-    ensures { result ≡ fields.trailer_of (by_engine engine short.now long.now) mode s.now }
+// Behind `at` process octets. Inlined, so that no place is tested where `at` is worked out from the end.
+#[inline(always)]
+fn trailer_at<const MODE: u8>(signing: &Signing, s: &[u8], at: usize) -> Trailer
+    requires { at ≡ places.process_octets MODE (length s.now) }
+    ensures { result ≡ fields.trailer_of (by_engine signing.now.engine signing.now.short.now signing.now.long.now) MODE s.now }
 {
-    let n = s.len();
-    if mode == 1 {
-        if n < 4 {
-            return cut_trailer_by(engine, short, long, mode, s);
-        }
-        Trailer {
-            port: s[n - 4],
-            control: s[n - 3],
-            signature_holds: short_holds(engine, short, s),
-        }
+    let end = (at + 2).min(s.len());
+    Trailer {
+        port: octet(s, at),
+        control: octet(s, at + 1),
+        signature_holds: replace(sign(signing, MODE, &s[..end])) == carried(MODE, s, at + 2),
+    }
+}
+
+// An SPDU that lacks safety octets, as none does that is configured, has no process octets.
+#[inline(always)]
+fn trailer_in<const MODE: u8>(signing: &Signing, s: &[u8]) -> Trailer
+    ensures { result ≡ fields.trailer_of (by_engine signing.now.engine signing.now.short.now signing.now.long.now) MODE s.now }
+{
+    let safety = ranges::safety_octets(MODE) as usize;
+    if s.len() < safety {
+        trailer_at::<MODE>(signing, s, 0)
     } else {
-        if n < 6 {
-            return cut_trailer_by(engine, short, long, mode, s);
-        }
-        Trailer {
-            port: s[n - 6],
-            control: s[n - 5],
-            signature_holds: long_holds(engine, long, s),
-        }
+        trailer_at::<MODE>(signing, s, s.len() - safety)
+    }
+}
+
+// Any mode but 1 reads as 2.
+fn trailer_by(signing: &Signing, mode: u8, s: &[u8]) -> Trailer
+    ensures { result ≡ fields.trailer_of (by_engine signing.now.engine signing.now.short.now signing.now.long.now) mode s.now }
+{
+    if mode == 1 {
+        trailer_in::<1>(signing, s)
+    } else {
+        trailer_in::<2>(signing, s)
     }
 }
 
 // The fields of an SPDU, whatever its length.
-pub fn response_fields_by(
-    engine: Engine,
-    short: &[u16; 256],
-    long: &[u32; 16],
-    p: Params,
-    s: &[u8],
-) -> Response
-    ensures { result ≡ fields.response_fields (by_engine engine short.now long.now) p s.now }
+// A Response and a Request have other fields (000 Tables 31 and 32) and other lengths, so each has a function of its own.
+pub fn response_fields_by(signing: &Signing, p: Params, s: &[u8]) -> Response
+    ensures { result ≡ fields.response_fields (by_engine signing.now.engine signing.now.short.now signing.now.long.now) p s.now }
 {
-    let t = trailer_by(engine, short, long, p.FSP_ProtMode, s);
+    let t = trailer_by(signing, p.FSP_ProtMode, s);
     let status = t.control;
     Response {
         length: s.len(),
@@ -185,17 +140,11 @@ pub fn response_fields_by(
     }
 }
 
-pub fn read_response_by(
-    engine: Engine,
-    short: &[u16; 256],
-    long: &[u32; 16],
-    p: Params,
-    s: &[u8],
-) -> Response
-    ensures { result ≡ fields.response_by (by_engine engine short.now long.now) p s.now }
+pub fn read_response_by(signing: &Signing, p: Params, s: &[u8]) -> Response
+    ensures { result ≡ fields.response_by (by_engine signing.now.engine signing.now.short.now signing.now.long.now) p s.now }
 {
     if s.len() == p.SPDUInLength as usize {
-        response_fields_by(engine, short, long, p, s)
+        response_fields_by(signing, p, s)
     } else {
         Response {
             length: s.len(),
@@ -212,16 +161,10 @@ pub fn read_response_by(
 }
 
 // The fields of an SPDU, whatever its length.
-pub fn request_fields_by(
-    engine: Engine,
-    short: &[u16; 256],
-    long: &[u32; 16],
-    p: Params,
-    s: &[u8],
-) -> Request
-    ensures { result ≡ fields.request_fields (by_engine engine short.now long.now) p s.now }
+pub fn request_fields_by(signing: &Signing, p: Params, s: &[u8]) -> Request
+    ensures { result ≡ fields.request_fields (by_engine signing.now.engine signing.now.short.now signing.now.long.now) p s.now }
 {
-    let t = trailer_by(engine, short, long, p.FSP_ProtMode, s);
+    let t = trailer_by(signing, p.FSP_ProtMode, s);
     let control = t.control;
     Request {
         length: s.len(),
@@ -235,17 +178,11 @@ pub fn request_fields_by(
     }
 }
 
-pub fn read_request_by(
-    engine: Engine,
-    short: &[u16; 256],
-    long: &[u32; 16],
-    p: Params,
-    s: &[u8],
-) -> Request
-    ensures { result ≡ fields.request_by (by_engine engine short.now long.now) p s.now }
+pub fn read_request_by(signing: &Signing, p: Params, s: &[u8]) -> Request
+    ensures { result ≡ fields.request_by (by_engine signing.now.engine signing.now.short.now signing.now.long.now) p s.now }
 {
     if s.len() == p.SPDUOutLength as usize {
-        request_fields_by(engine, short, long, p, s)
+        request_fields_by(signing, p, s)
     } else {
         Request {
             length: s.len(),

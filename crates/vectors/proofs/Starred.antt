@@ -1,4 +1,4 @@
--- Document 01's marked cases hold, by computation, for every pair of tables that have its rule. `table16` and `table32` return such tables.
+-- Document 01's marked cases hold, by computation, for every pair of tables that have its rule. `table` of u16 and that of u32 return such tables.
 -- Assumes nothing.
 use Rattle.std.proofs.Common.{ℕ, List, [], ◌∷◌, lit<}
 use Rattle.gf2.specs.Generators.{generator16, generator32}

@@ -1,10 +1,13 @@
 // Parameter blocks (000 Table 22) and document 01's answers to them. Each is a good block with a change.
-use crate::print::{answered, decimal, text};
+use crate::Run;
+use crate::print::{Told, compared};
 use signature::Engine;
-use std::io::Stdout;
+
+#[derive(Clone, Copy)]
+struct Octets([u8; 48]);
 
 // SAFETYCOM at port 1 with the short signature: no other data, and one octet of bits each way. Signatures are left 0.
-const SAFETYCOM: [u8; 48] = [
+const SAFETYCOM: Octets = Octets([
     // ArgBlockID, PortMode, Validation&Backup, I/Q behavior, PortCycleTime
     0x80, 0x01, 49, 0, 0, 0,
     // VendorID, DeviceID
@@ -19,283 +22,225 @@ const SAFETYCOM: [u8; 48] = [
     1, 5, 8, 1, 0, 0,
     // SPDUOutLength, TotalOfOutBits, TotalOfOutOctets, TotalOfOutInt16, TotalOfOutInt32
     5, 1, 1, 0, 0,
-];
+]);
 
-// The good block with one octet changed, before it is signed. A row has, in decimal digits, the octet's offset, its value, and the
-// number and the offset of the answer.
-const UNDER_RIGHT_SIGNATURES: [u64; 58] = [
+// An octet of the good block that is changed: its offset, its value, and the number and the offset of the answer.
+type Change = (usize, u8, u8, u8);
+
+// Process octets in an SPDU that is as long as they make it: the offset of the SPDU's length, the length, the octets, and the number
+// and the offset of the answer.
+type Length = (usize, u8, u8, u8, u8);
+
+// Before the block is signed.
+const UNDER_RIGHT_SIGNATURES: [Change; 58] = [
     // ArgBlockID 0x0001, 0x8000
-    00_000_02_00,
-    01_000_02_00,
+    (0, 0, 2, 0),
+    (1, 0, 2, 0),
     // PortMode
-    02_000_04_00,
-    02_004_04_00,
-    02_005_03_00,
-    02_048_03_00,
-    02_049_00_00,
-    02_050_00_00,
-    02_051_04_00,
-    02_052_03_00,
-    02_096_03_00,
-    02_097_03_00,
-    02_255_03_00,
+    (2, 0, 4, 0),
+    (2, 4, 4, 0),
+    (2, 5, 3, 0),
+    (2, 48, 3, 0),
+    (2, 49, 0, 0),
+    (2, 50, 0, 0),
+    (2, 51, 4, 0),
+    (2, 52, 3, 0),
+    (2, 96, 3, 0),
+    (2, 97, 3, 0),
+    (2, 255, 3, 0),
     // Validation&Backup
-    03_004_00_00,
-    03_005_05_03,
+    (3, 4, 0, 0),
+    (3, 5, 5, 3),
     // I/Q behavior
-    04_001_05_04,
-    04_004_05_04,
-    04_005_00_00,
-    04_006_05_04,
+    (4, 1, 5, 4),
+    (4, 4, 5, 4),
+    (4, 5, 0, 0),
+    (4, 6, 5, 4),
     // PortCycleTime
-    05_255_00_00,
+    (5, 255, 0, 0),
     // VendorID 0
-    07_000_05_06,
+    (7, 0, 5, 6),
     // DeviceID 16777217, 0
-    08_001_05_08,
-    11_000_05_08,
+    (8, 1, 5, 8),
+    (11, 0, 5, 8),
     // InputDataLength, beside an SPDUInLength of 5
-    12_027_00_00,
-    12_028_05_38,
-    12_063_05_38,
-    12_064_05_12,
-    12_128_05_12,
+    (12, 27, 0, 0),
+    (12, 28, 5, 38),
+    (12, 63, 5, 38),
+    (12, 64, 5, 12),
+    (12, 128, 5, 12),
     // OutputDataLength, beside an SPDUOutLength of 5
-    13_027_00_00,
-    13_028_05_43,
-    13_063_05_43,
-    13_064_05_13,
-    13_128_05_13,
+    (13, 27, 0, 0),
+    (13, 28, 5, 43),
+    (13, 63, 5, 43),
+    (13, 64, 5, 13),
+    (13, 128, 5, 13),
     // FSP_Port, where port 1 is addressed
-    22_000_05_22,
-    22_002_12_00,
-    22_255_12_00,
+    (22, 0, 5, 22),
+    (22, 2, 12, 0),
+    (22, 255, 12, 0),
     // FSP_ProtVersion
-    25_000_05_25,
-    25_255_00_00,
+    (25, 0, 5, 25),
+    (25, 255, 0, 0),
     // FSP_ProtMode; the lengths are those of mode 1
-    26_000_05_26,
-    26_002_05_38,
-    26_003_05_26,
+    (26, 0, 5, 26),
+    (26, 2, 5, 38),
+    (26, 3, 5, 26),
     // FSP_WatchdogTime 0
-    28_000_05_27,
+    (28, 0, 5, 27),
     // IO_DescVersion
-    37_000_05_37,
-    37_002_05_37,
+    (37, 0, 5, 37),
+    (37, 2, 5, 37),
     // SPDUInLength, TotalOfInBits, TotalOfInOctets, TotalOfInInt16, TotalOfInInt32
-    38_004_05_38,
-    38_006_05_38,
-    39_000_00_00,
-    39_009_05_39,
-    40_000_05_38,
-    41_001_05_38,
-    42_001_05_38,
+    (38, 4, 5, 38),
+    (38, 6, 5, 38),
+    (39, 0, 0, 0),
+    (39, 9, 5, 39),
+    (40, 0, 5, 38),
+    (41, 1, 5, 38),
+    (42, 1, 5, 38),
     // SPDUOutLength, TotalOfOutBits, TotalOfOutOctets, TotalOfOutInt16, TotalOfOutInt32
-    43_004_05_43,
-    43_006_05_43,
-    44_000_00_00,
-    44_009_05_44,
-    45_000_05_43,
-    46_001_05_43,
-    47_001_05_43,
+    (43, 4, 5, 43),
+    (43, 6, 5, 43),
+    (44, 0, 0, 0),
+    (44, 9, 5, 44),
+    (45, 0, 5, 43),
+    (46, 1, 5, 43),
+    (47, 1, 5, 43),
 ];
 
-// The same, after it was signed.
-const UNDER_EARLIER_SIGNATURES: [u64; 15] = [
+// After it was signed.
+const UNDER_EARLIER_SIGNATURES: [Change; 15] = [
     // PortCycleTime, OutputDataLength: under no signature
-    05_001_00_00,
-    13_001_00_00,
+    (5, 1, 0, 0),
+    (13, 1, 0, 0),
     // FSCP_Authenticity1, FSCP_Authenticity2, FSP_AuthentCRC
-    14_001_06_23,
-    21_001_06_23,
-    23_000_06_23,
-    24_000_06_23,
+    (14, 1, 6, 23),
+    (21, 1, 6, 23),
+    (23, 0, 6, 23),
+    (24, 0, 6, 23),
     // FSP_ProtVersion, FSP_WatchdogTime, FSP_TechParCRC, FSP_ProtParCRC
-    25_002_06_35,
-    28_101_06_35,
-    34_001_06_35,
-    35_000_06_35,
-    36_000_06_35,
+    (25, 2, 6, 35),
+    (28, 101, 6, 35),
+    (34, 1, 6, 35),
+    (35, 0, 6, 35),
+    (36, 0, 6, 35),
     // FSP_IO_StructCRC, which FSP_ProtParCRC covers
-    29_000_06_29,
-    30_000_06_29,
+    (29, 0, 6, 29),
+    (30, 0, 6, 29),
     // TotalOfInBits, TotalOfOutBits
-    39_007_06_29,
-    44_000_06_29,
+    (39, 7, 6, 29),
+    (44, 0, 6, 29),
 ];
 
-// Process octets in an SPDU that is as long as they make it. A row has the offset of the SPDU's length, the length, the octets,
-// and the number and the offset of the answer.
-const LENGTHS_16: [u64; 8] = [
-    38_04_00_05_38,
-    38_05_01_00_00,
-    38_07_03_00_00,
-    38_08_04_05_38,
-    43_04_00_05_43,
-    43_05_01_00_00,
-    43_07_03_00_00,
-    43_08_04_05_43,
+const LENGTHS_16: [Length; 8] = [
+    (38, 4, 0, 5, 38),
+    (38, 5, 1, 0, 0),
+    (38, 7, 3, 0, 0),
+    (38, 8, 4, 5, 38),
+    (43, 4, 0, 5, 43),
+    (43, 5, 1, 0, 0),
+    (43, 7, 3, 0, 0),
+    (43, 8, 4, 5, 43),
 ];
 
-const LENGTHS_32: [u64; 6] = [
-    38_06_00_00_00,
-    38_31_25_00_00,
-    38_32_26_05_38,
-    43_06_00_00_00,
-    43_31_25_00_00,
-    43_32_26_05_43,
+const LENGTHS_32: [Length; 6] = [
+    (38, 6, 0, 0, 0),
+    (38, 31, 25, 0, 0),
+    (38, 32, 26, 5, 38),
+    (43, 6, 0, 0, 0),
+    (43, 31, 25, 0, 0),
+    (43, 32, 26, 5, 43),
 ];
 
-fn with(block: [u8; 48], at: usize, octet: u8) -> [u8; 48] {
-    let mut changed = block;
-    if at < 48 {
-        changed[at] = octet;
+impl Octets {
+    // With these octets from an offset on.
+    fn with(self, at: usize, octets: &[u8]) -> Octets {
+        let mut changed = self.0;
+        for (place, octet) in changed.iter_mut().skip(at).zip(octets) {
+            *place = *octet;
+        }
+        Octets(changed)
     }
-    changed
-}
 
-// With the right signatures. FSP_ProtParCRC covers FSP_IO_StructCRC and so comes last.
-fn signed(engine: Engine, block: [u8; 48]) -> [u8; 48] {
-    let table = signature::table16_for(engine);
-    let authent = signature::signature16_with(engine, &table, 0, &block[14..23]);
-    let io_struct = signature::signature16_with(engine, &table, 0, &block[37..48]);
-    let block = with(block, 23, (authent / 256) as u8);
-    let block = with(block, 24, (authent % 256) as u8);
-    let block = with(block, 29, (io_struct / 256) as u8);
-    let block = with(block, 30, (io_struct % 256) as u8);
-    let prot_par = signature::signature16_with(engine, &table, 0, &block[25..35]);
-    let block = with(block, 35, (prot_par / 256) as u8);
-    with(block, 36, (prot_par % 256) as u8)
-}
-
-fn judged(
-    output: Stdout,
-    engine: Engine,
-    name: &[u8],
-    octets: &[u8],
-    port: u8,
-    number: u8,
-    offset: u8,
-) {
-    let judged = block::judge(engine, octets, port);
-    let answer = judged.answer;
-    answered(
-        output,
-        name,
-        answer::number(answer),
-        answer::offset(answer),
-        number,
-        offset,
-    );
-}
-
-fn octet_line(output: Stdout, at: usize, octet: u8) {
-    text(output, b"octet ");
-    decimal(output, at as u64);
-    text(output, b" is ");
-    decimal(output, octet as u64);
-}
-
-fn block_with(engine: Engine, at: usize, octet: u8, signed_before: bool) -> [u8; 48] {
-    if signed_before {
-        with(signed(engine, SAFETYCOM), at, octet)
-    } else {
-        signed(engine, with(SAFETYCOM, at, octet))
+    // With the right signatures. FSP_ProtParCRC covers FSP_IO_StructCRC and so comes last.
+    fn signed(self, engine: Engine) -> Octets {
+        let table = signature::table_for::<u16>(engine);
+        let authent = signature::sign_with::<u16>(engine, &table, 0, &self.0[14..23]);
+        let io_struct = signature::sign_with::<u16>(engine, &table, 0, &self.0[37..48]);
+        let block = self
+            .with(23, &authent.to_be_bytes())
+            .with(29, &io_struct.to_be_bytes());
+        let prot_par = signature::sign_with::<u16>(engine, &table, 0, &block.0[25..35]);
+        block.with(35, &prot_par.to_be_bytes())
     }
 }
 
-fn changed(output: Stdout, engine: Engine, name: &[u8], row: u64, signed_before: bool) {
-    let at = (row / 10000000) as usize;
-    let octet = (row / 10000 % 1000 % 256) as u8;
-    let number = (row / 100 % 100) as u8;
-    let offset = (row % 100) as u8;
-    let block = block_with(engine, at, octet, signed_before);
-    octet_line(output, at, octet);
-    judged(output, engine, name, &block, 1, number, offset);
+fn judged(run: Run, name: &str, octets: &[u8], port: u8, number: u8, offset: u8) {
+    let answer = block::judge(run.engine, octets, port).answer;
+    let paper = Told { number, offset };
+    compared(run.output, name, Told::from(answer), paper);
 }
 
-fn all_changed(output: Stdout, engine: Engine, name: &[u8], rows: &[u64], signed_before: bool) {
-    let mut i = 0;
-    while i < rows.len() {
-        changed(output, engine, name, rows[i], signed_before);
-        i += 1;
+// A row of changes a line, each with the block that its change makes.
+fn changes<F: Fn(usize, u8) -> Octets>(run: Run, name: &str, rows: &[Change], block: F)
+    requires { F.IsAlwaysCallable block }
+{
+    for &(at, octet, number, offset) in rows {
+        let _ = print!(run.output; "octet {at} is {octet}");
+        judged(run, name, &block(at, octet).0, 1, number, offset);
     }
 }
 
-fn length(output: Stdout, engine: Engine, name: &[u8], row: u64, block: [u8; 48]) {
-    let at = (row / 100000000 % 100) as usize;
-    let length = (row / 1000000 % 100) as u8;
-    let octets = (row / 10000 % 100) as u8;
-    let number = (row / 100 % 100) as u8;
-    let offset = (row % 100) as u8;
-    let block = with(with(block, at, length), at + 1, 0);
-    let block = signed(engine, with(block, at + 2, octets));
-    octet_line(output, at, length);
-    text(output, b" with process octets ");
-    decimal(output, octets as u64);
-    judged(output, engine, name, &block, 1, number, offset);
-}
-
-fn all_lengths(output: Stdout, engine: Engine, name: &[u8], rows: &[u64], block: [u8; 48]) {
-    let mut i = 0;
-    while i < rows.len() {
-        length(output, engine, name, rows[i], block);
-        i += 1;
+fn lengths(run: Run, name: &str, rows: &[Length], good: Octets) {
+    for &(at, length, octets, number, offset) in rows {
+        let block = good.with(at, &[length, 0, octets]).signed(run.engine);
+        let _ = print!(run.output; "octet {at} is {length} with process octets {octets}");
+        judged(run, name, &block.0, 1, number, offset);
     }
 }
 
-fn good(output: Stdout, engine: Engine, name: &[u8], block: [u8; 48]) {
-    let block = signed(engine, block);
-    judged(output, engine, name, &block, 1, 0, 0);
+fn good(run: Run, name: &str, block: Octets) {
+    judged(run, name, &block.signed(run.engine).0, 1, 0, 0);
 }
 
-fn modes(output: Stdout, engine: Engine, short: [u8; 48], long: [u8; 48]) {
-    good(output, engine, b"SAFETYCOM, 16 bits", short);
-    good(output, engine, b"SAFETYCOM, 32 bits", long);
-    good(
-        output,
-        engine,
-        b"MIXEDSAFETYCOM, 16 bits",
-        with(short, 2, 50),
-    );
-    good(
-        output,
-        engine,
-        b"MIXEDSAFETYCOM, 32 bits",
-        with(long, 2, 50),
-    );
+fn modes(run: Run, short: Octets, long: Octets) {
+    good(run, "SAFETYCOM, 16 bits", short);
+    good(run, "SAFETYCOM, 32 bits", long);
+    good(run, "MIXEDSAFETYCOM, 16 bits", short.with(2, &[50]));
+    good(run, "MIXEDSAFETYCOM, 32 bits", long.with(2, &[50]));
 }
 
 // 01, "Numbers to try" and "The session program".
-fn known(output: Stdout, engine: Engine) {
-    good(output, engine, b"n 27, m 5", with(SAFETYCOM, 12, 27));
-    let block = signed(engine, with(SAFETYCOM, 12, 28));
-    judged(output, engine, b"n 28, m 5", &block, 1, 5, 38);
-    judged(output, engine, b"48 zero octets", &[0u8; 48], 1, 2, 0);
+fn known(run: Run) {
+    good(run, "n 27, m 5", SAFETYCOM.with(12, &[27]));
+    let block = SAFETYCOM.with(12, &[28]).signed(run.engine);
+    judged(run, "n 28, m 5", &block.0, 1, 5, 38);
+    judged(run, "48 zero octets", &[0u8; 48], 1, 2, 0);
 }
 
-fn sizes_and_ports(output: Stdout, engine: Engine) {
-    judged(output, engine, b"no octets", b"", 1, 1, 0);
-    judged(output, engine, b"47 zero octets", &[0u8; 47], 1, 1, 0);
-    judged(output, engine, b"49 zero octets", &[0u8; 49], 1, 1, 0);
-    let block = signed(engine, SAFETYCOM);
-    judged(output, engine, b"port 0", &block, 0, 8, 0);
-    judged(output, engine, b"port 9", &block, 9, 8, 0);
-    judged(output, engine, b"port 2, FSP_Port 1", &block, 2, 12, 0);
+fn sizes_and_ports(run: Run) {
+    judged(run, "no octets", b"", 1, 1, 0);
+    judged(run, "47 zero octets", &[0u8; 47], 1, 1, 0);
+    judged(run, "49 zero octets", &[0u8; 49], 1, 1, 0);
+    let block = SAFETYCOM.signed(run.engine);
+    judged(run, "port 0", &block.0, 0, 8, 0);
+    judged(run, "port 9", &block.0, 9, 8, 0);
+    judged(run, "port 2, FSP_Port 1", &block.0, 2, 12, 0);
 }
 
-pub(crate) fn run(output: Stdout, engine: Engine) {
+pub(crate) fn run(run: Run) {
+    let engine = run.engine;
     // The long signature has two octets more.
-    let long = with(with(with(SAFETYCOM, 26, 2), 38, 7), 43, 7);
-    modes(output, engine, SAFETYCOM, long);
-    known(output, engine);
-    sizes_and_ports(output, engine);
-    let rows = UNDER_RIGHT_SIGNATURES;
-    all_changed(output, engine, b"", &rows, false);
-    let rows = UNDER_EARLIER_SIGNATURES;
-    all_changed(output, engine, b" under earlier signatures", &rows, true);
-    let rows = LENGTHS_16;
-    all_lengths(output, engine, b", 16 bits", &rows, SAFETYCOM);
-    let rows = LENGTHS_32;
-    all_lengths(output, engine, b", 32 bits", &rows, long);
+    let long = SAFETYCOM.with(26, &[2]).with(38, &[7]).with(43, &[7]);
+    modes(run, SAFETYCOM, long);
+    known(run);
+    sizes_and_ports(run);
+    let signed_after = |at, octet| SAFETYCOM.with(at, &[octet]).signed(engine);
+    changes(run, "", &UNDER_RIGHT_SIGNATURES, signed_after);
+    let signed_before = |at, octet| SAFETYCOM.signed(engine).with(at, &[octet]);
+    let name = " under earlier signatures";
+    changes(run, name, &UNDER_EARLIER_SIGNATURES, signed_before);
+    lengths(run, ", 16 bits", &LENGTHS_16, SAFETYCOM);
+    lengths(run, ", 32 bits", &LENGTHS_32, long);
 }

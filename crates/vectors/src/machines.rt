@@ -1,73 +1,57 @@
 // The clock, and both machines talking: the sequences that 000 11.5.4 describes in words.
-use crate::print::{compared, decimal, text};
+use crate::print::compared;
 use fs_device::Device;
 use fs_master::Master;
 use scl::{Happening, Request, Response};
-use std::io::Stdout;
+use std::fmt;
+use std::fmt::Display;
+use std::io::{Print, Stdout};
 
 // Document 01: W 100.
 const W: u16 = 100;
 
+// Both machines, and where they are shown.
 #[derive(Clone, Copy)]
 struct Ends {
+    output: Stdout,
     master: Master,
     device: Device,
 }
 
-fn number(bit: bool) -> u64 {
-    if bit { 1 } else { 0 }
-}
-
-fn value(output: Stdout, name: &[u8], n: u64) {
-    text(output, name);
-    decimal(output, n);
+impl Display for Ends {
+    fn fmt<W: fmt::Write>(&self, f: &mut fmt::Formatter<W>) -> fmt::Result {
+        let d = self.device;
+        write!(
+            f,
+            "FS-Device {} DCount_i {} SDset {} DCommErr {} DTimeout {} PDout {}",
+            d.state,
+            d.DCount_i,
+            u8::from(d.SDset),
+            u8::from(d.DCommErr),
+            u8::from(d.DTimeout),
+            u8::from(d.released)
+        )?;
+        let m = self.master;
+        write!(
+            f,
+            "; FS-Master {} MCount {} setSD {} SDset_S {} ChFAckReq_S {} PDin {}",
+            m.state,
+            m.MCount,
+            u8::from(m.setSD),
+            u8::from(m.SDset_S),
+            u8::from(m.ChFAckReq_S),
+            u8::from(m.released)
+        )
+    }
 }
 
 fn times(output: Stdout) {
-    compared(
-        output,
-        b"elapsed from 4294967290 to 4",
-        scl::elapsed(4, 4294967290) as u64,
-        10,
-    );
-    compared(
-        output,
-        b"W 100, elapsed 100: expired",
-        number(scl::expired(100, 0, W)),
-        0,
-    );
-    compared(
-        output,
-        b"W 100, elapsed 101: expired",
-        number(scl::expired(101, 0, W)),
-        1,
-    );
-}
-
-fn show_device(output: Stdout, d: Device) {
-    value(output, b" ms: FS-Device ", d.state as u64);
-    value(output, b" DCount_i ", d.DCount_i as u64);
-    value(output, b" SDset ", number(d.SDset));
-    value(output, b" DCommErr ", number(d.DCommErr));
-    value(output, b" DTimeout ", number(d.DTimeout));
-    value(output, b" PDout ", number(d.released));
-}
-
-fn show_master(output: Stdout, m: Master) {
-    value(output, b"; FS-Master ", m.state as u64);
-    value(output, b" MCount ", m.MCount as u64);
-    value(output, b" setSD ", number(m.setSD));
-    value(output, b" SDset_S ", number(m.SDset_S));
-    value(output, b" ChFAckReq_S ", number(m.ChFAckReq_S));
-    value(output, b" PDin ", number(m.released));
-}
-
-fn shown(output: Stdout, name: &[u8], at: u32, ends: Ends) {
-    text(output, name);
-    value(output, b", ", at as u64);
-    show_device(output, ends.device);
-    show_master(output, ends.master);
-    text(output, b"\n");
+    let elapsed = scl::elapsed(4, 4294967290);
+    compared(output, "elapsed from 4294967290 to 4", elapsed, 10);
+    let expired = u8::from(scl::expired(100, 0, W));
+    compared(output, "W 100, elapsed 100: expired", expired, 0);
+    let expired = u8::from(scl::expired(101, 0, W));
+    compared(output, "W 100, elapsed 101: expired", expired, 1);
 }
 
 // What the FS-Master sends, damaged or not.
@@ -99,114 +83,115 @@ fn response(d: Device, damaged: bool) -> Response {
     }
 }
 
-fn at_device(ends: Ends, happening: Happening) -> Ends {
-    let master = ends.master;
-    let outcome = fs_device::step(ends.device, W, happening);
-    let device = outcome.device;
-    Ends { master, device }
-}
+impl Ends {
+    // Prints both, with the name of what happened and the reading that it came at.
+    fn shown(self, name: &str, at: u32) -> Ends {
+        let _ = self.output.println(format_args!("{name}, {at} ms: {self}"));
+        self
+    }
 
-fn at_master(ends: Ends, happening: Happening) -> Ends {
-    let device = ends.device;
-    let outcome = fs_master::step(ends.master, W, happening);
-    let master = outcome.master;
-    Ends { master, device }
-}
+    fn at_device(self, happening: Happening) -> Ends {
+        let device = fs_device::step(self.device, W, happening).device;
+        Ends { device, ..self }
+    }
 
-fn answer(output: Stdout, name: &[u8], ends: Ends, at: u32, damaged: bool) -> Ends {
-    let d = ends.device;
-    let after = at_master(ends, Happening::Response(at, response(d, damaged)));
-    shown(output, name, at, after);
-    after
-}
+    fn at_master(self, happening: Happening) -> Ends {
+        let master = fs_master::step(self.master, W, happening).master;
+        Ends { master, ..self }
+    }
 
-// One cycle: the FS-Master's SPDU arrives, then the FS-Device's answer.
-fn cycle(output: Stdout, name: &[u8], ends: Ends, at: u32) -> Ends {
-    let m = ends.master;
-    let there = at_device(ends, Happening::Request(at, request(m, false)));
-    answer(output, name, there, at, false)
-}
+    // The FS-Master's SPDU arrives.
+    fn sent(self, at: u32, damaged: bool) -> Ends {
+        self.at_device(Happening::Request(at, request(self.master, damaged)))
+    }
 
-// Two cycles, 10 ms apart.
-fn two_cycles(output: Stdout, name: &[u8], ends: Ends, at: u32) -> Ends {
-    let ends = cycle(output, name, ends, at);
-    cycle(output, name, ends, std::num::wrapping_add_u32(at, 10))
-}
+    // The FS-Device's answer arrives.
+    fn answered(self, name: &str, at: u32, damaged: bool) -> Ends {
+        self.at_master(Happening::Response(at, response(self.device, damaged)))
+            .shown(name, at)
+    }
 
-fn four_cycles(output: Stdout, name: &[u8], ends: Ends, at: u32) -> Ends {
-    let ends = two_cycles(output, name, ends, at);
-    two_cycles(output, name, ends, std::num::wrapping_add_u32(at, 20))
-}
+    // One cycle: the FS-Master's SPDU arrives, then the FS-Device's answer.
+    fn cycle(self, name: &str, at: u32) -> Ends {
+        self.sent(at, false).answered(name, at, false)
+    }
 
-fn damaged_there(output: Stdout, name: &[u8], ends: Ends, at: u32) -> Ends {
-    let m = ends.master;
-    let there = at_device(ends, Happening::Request(at, request(m, true)));
-    answer(output, name, there, at, false)
-}
+    // Two cycles, 10 ms apart.
+    fn two_cycles(self, name: &str, at: u32) -> Ends {
+        self.cycle(name, at).cycle(name, at.wrapping_add(10))
+    }
 
-fn damaged_back(output: Stdout, name: &[u8], ends: Ends, at: u32) -> Ends {
-    let m = ends.master;
-    let there = at_device(ends, Happening::Request(at, request(m, false)));
-    answer(output, name, there, at, true)
-}
+    fn four_cycles(self, name: &str, at: u32) -> Ends {
+        self.two_cycles(name, at)
+            .two_cycles(name, at.wrapping_add(20))
+    }
 
-fn clock(output: Stdout, name: &[u8], ends: Ends, at: u32) -> Ends {
-    let there = at_device(ends, Happening::Clock(at));
-    let after = at_master(there, Happening::Clock(at));
-    shown(output, name, at, after);
-    after
-}
+    fn damaged_there(self, name: &str, at: u32) -> Ends {
+        self.sent(at, true).answered(name, at, false)
+    }
 
-// The operator's ChFAck_C.
-fn acknowledge(output: Stdout, ends: Ends, at: u32) -> Ends {
-    let there = at_device(ends, Happening::Operator(at, false, true));
-    let after = at_master(there, Happening::Operator(at, false, true));
-    shown(output, b"ChFAck_C", at, after);
-    after
+    fn damaged_back(self, name: &str, at: u32) -> Ends {
+        self.sent(at, false).answered(name, at, true)
+    }
+
+    fn clock(self, name: &str, at: u32) -> Ends {
+        self.at_device(Happening::Clock(at))
+            .at_master(Happening::Clock(at))
+            .shown(name, at)
+    }
+
+    // The operator's ChFAck_C.
+    fn acknowledge(self, at: u32) -> Ends {
+        self.at_device(Happening::Operator(at, false, true))
+            .at_master(Happening::Operator(at, false, true))
+            .shown("ChFAck_C", at)
+    }
 }
 
 // 11.5.4.1: both with power on. 11.5.4.3: until the FS-Device has read an SPDU, its answer is zeros, and is ignored.
 fn start(output: Stdout) -> Ends {
-    let master = fs_master::first(0);
-    let device = fs_device::first(0);
-    let ends = Ends { master, device };
-    let ends = answer(output, b"zeros", ends, 5, false);
-    let ends = four_cycles(output, b"start-up", ends, 10);
-    cycle(output, b"regular", ends, 50)
+    let on = Ends {
+        output,
+        master: fs_master::first(0),
+        device: fs_device::first(0),
+    };
+    on.answered("zeros", 5, false)
+        .four_cycles("start-up", 10)
+        .cycle("regular", 50)
 }
 
 // 11.5.4.4: the FS-Device off and on again. The master's watchdog of 100 ms runs from 50 on.
-fn power(output: Stdout, ends: Ends) {
-    let ends = clock(output, b"silence", ends, 150);
-    let ends = clock(output, b"silence", ends, 151);
-    let master = ends.master;
-    let device = fs_device::first(152);
-    let ends = Ends { master, device };
-    let ends = four_cycles(output, b"on again", ends, 160);
-    let ends = acknowledge(output, ends, 195);
-    two_cycles(output, b"on again", ends, 200);
+fn power(ends: Ends) {
+    let silent = ends.clock("silence", 150).clock("silence", 151);
+    let on = Ends {
+        device: fs_device::first(152),
+        ..silent
+    };
+    on.four_cycles("on again", 160)
+        .acknowledge(195)
+        .two_cycles("on again", 200);
 }
 
 // 11.5.4.6: the FS-Master detects a CRC error.
-fn master_error(output: Stdout, ends: Ends) {
-    let ends = damaged_back(output, b"CRC error at the FS-Master", ends, 60);
-    let ends = two_cycles(output, b"after it", ends, 70);
-    let ends = acknowledge(output, ends, 85);
-    two_cycles(output, b"after it", ends, 90);
+fn master_error(ends: Ends) {
+    ends.damaged_back("CRC error at the FS-Master", 60)
+        .two_cycles("after it", 70)
+        .acknowledge(85)
+        .two_cycles("after it", 90);
 }
 
 // 11.5.4.7: the FS-Device detects a CRC error, and runs through three SDcycles.
-fn device_error(output: Stdout, ends: Ends) {
-    let ends = damaged_there(output, b"CRC error at the FS-Device", ends, 60);
-    let ends = four_cycles(output, b"after it", ends, 70);
-    let ends = acknowledge(output, ends, 105);
-    two_cycles(output, b"after it", ends, 110);
+fn device_error(ends: Ends) {
+    ends.damaged_there("CRC error at the FS-Device", 60)
+        .four_cycles("after it", 70)
+        .acknowledge(105)
+        .two_cycles("after it", 110);
 }
 
 pub(crate) fn run(output: Stdout) {
     times(output);
     let ends = start(output);
-    power(output, ends);
-    master_error(output, ends);
-    device_error(output, ends);
+    power(ends);
+    master_error(ends);
+    device_error(ends);
 }

@@ -10,23 +10,35 @@ mod printed;
 mod signatures;
 mod spdus;
 
-use print::text;
 use signature::Engine;
-use std::io::Stdout;
+use std::io::{Print, Stdout};
 
-fn signed_by(output: Stdout, engine: Engine) {
-    signatures::run(output, engine);
-    blocks::run(output, engine);
-    spdus::run(output, engine);
+// Where a run prints, and the engine that signs in it.
+#[derive(Clone, Copy)]
+pub(crate) struct Run {
+    pub(crate) output: Stdout,
+    pub(crate) engine: Engine,
+}
+
+fn signed(run: Run) {
+    signatures::run(run);
+    blocks::run(run);
+    spdus::run(run);
 }
 
 fn main(rt: HostRuntime) {
     let output = rt.stdout();
-    text(output, b"signed by the look-up\n");
-    signed_by(output, Engine::Table);
-    text(output, b"signed by the bit shift\n");
-    signed_by(output, Engine::Shift);
-    text(output, b"with no signature\n");
+    let _ = output.println("signed by the look-up");
+    signed(Run {
+        output,
+        engine: Engine::Table,
+    });
+    let _ = output.println("signed by the bit shift");
+    signed(Run {
+        output,
+        engine: Engine::Shift,
+    });
+    let _ = output.println("with no signature");
     histograms::run(output);
     machines::run(output);
 }

@@ -1,97 +1,73 @@
 // Lines of text on standard output. A write that fails shows in the lines that are missing, so its error is passed over.
+use answer::Answer;
+use std::fmt;
+use std::fmt::Display;
 use std::io::{Print, Stdout};
 
-pub(crate) fn text(output: Stdout, s: &[u8]) {
-    let _ = output.write_all(s);
-}
-
-pub(crate) fn decimal(output: Stdout, n: u64) {
-    let _ = output.print(n);
-}
-
-pub(crate) fn hex(output: Stdout, n: u64, digits: usize) {
-    let _ = print!(output; "{n:0digits$x}");
-}
-
-// A number as we compute it, beside the number that it should be.
-pub(crate) fn compared(output: Stdout, name: &[u8], ours: u64, paper: u64) {
-    text(output, name);
-    text(output, b": ");
-    decimal(output, ours);
-    if ours == paper {
-        text(output, b"\n");
-    } else {
-        text(output, b" DIFFERS from ");
-        decimal(output, paper);
-        text(output, b"\n");
-    }
-}
-
 // The pattern of a float; of a NaN, all ones.
-fn pattern(x: f64) -> u64 {
-    if x == x { f64::to_bits(x) } else { u64::MAX }
-}
+#[derive(Clone, Copy, PartialEq)]
+pub(crate) struct Pattern(pub(crate) u64);
 
-// The same of a float, by its pattern.
-pub(crate) fn compared_float(output: Stdout, name: &[u8], ours: f64, paper: u64) {
-    text(output, name);
-    text(output, b": ");
-    hex(output, pattern(ours), 16);
-    if pattern(ours) == paper {
-        text(output, b"\n");
-    } else {
-        text(output, b" DIFFERS from ");
-        hex(output, paper, 16);
-        text(output, b"\n");
+impl From<f64> for Pattern {
+    fn from(x: f64) -> Pattern {
+        Pattern(if x.is_nan() { u64::MAX } else { x.to_bits() })
     }
 }
 
-// An answer as we give it, beside the answer that it should be.
-pub(crate) fn answered(
+impl Display for Pattern {
+    fn fmt<W: fmt::Write>(&self, f: &mut fmt::Formatter<W>) -> fmt::Result {
+        let pattern = self.0;
+        write!(f, "{pattern:016x}")
+    }
+}
+
+// An answer as it is told, by its number and its offset in a block.
+#[derive(Clone, Copy, PartialEq)]
+pub(crate) struct Told {
+    pub(crate) number: u8,
+    pub(crate) offset: u8,
+}
+
+impl From<Answer> for Told {
+    fn from(answer: Answer) -> Told {
+        Told {
+            number: answer::number(answer),
+            offset: answer::offset(answer),
+        }
+    }
+}
+
+impl Display for Told {
+    fn fmt<W: fmt::Write>(&self, f: &mut fmt::Formatter<W>) -> fmt::Result {
+        let number = self.number;
+        let offset = self.offset;
+        write!(f, "number {number} at offset {offset}")
+    }
+}
+
+// Octets, two digits each.
+#[derive(Clone, Copy, PartialEq)]
+pub(crate) struct Hex<'a>(pub(crate) &'a [u8]);
+
+impl Display for Hex<'_> {
+    fn fmt<W: fmt::Write>(&self, f: &mut fmt::Formatter<W>) -> fmt::Result {
+        for octet in self.0 {
+            write!(f, "{octet:02x}")?;
+        }
+        Ok(())
+    }
+}
+
+// What we compute, beside what it should be. A name serves one call, so a struct of `output` and `name` would be made at each.
+pub(crate) fn compared<T: Display + PartialEq + Copy>(
     output: Stdout,
-    name: &[u8],
-    number: u8,
-    offset: u8,
-    paper_number: u8,
-    paper_offset: u8,
+    name: &str,
+    ours: T,
+    paper: T,
 ) {
-    text(output, name);
-    text(output, b": number ");
-    decimal(output, number as u64);
-    text(output, b" at offset ");
-    decimal(output, offset as u64);
-    if (number == paper_number) & (offset == paper_offset) {
-        text(output, b"\n");
-    } else {
-        text(output, b" DIFFERS from ");
-        decimal(output, paper_number as u64);
-        text(output, b" at ");
-        decimal(output, paper_offset as u64);
-        text(output, b"\n");
-    }
-}
-
-fn octet(output: Stdout, ours: u8, paper: u8) {
-    hex(output, ours as u64, 2);
+    let _ = print!(output; "{name}: {ours}");
     if ours != paper {
-        text(output, b" DIFFERS from ");
-        hex(output, paper as u64, 2);
-        text(output, b" ");
+        let _ = print!(output; " DIFFERS from {paper}");
     }
-}
-
-// Octets as we compute them, each beside the octet that it should be.
-pub(crate) fn octets(output: Stdout, name: &[u8], ours: &[u8], paper: &[u8]) {
-    text(output, name);
-    text(output, b": ");
-    if ours.len() != paper.len() {
-        text(output, b"DIFFERS in length\n");
-        return;
-    }
-    let mut i = 0;
-    while i < paper.len() {
-        octet(output, ours[i], paper[i]);
-        i += 1;
-    }
-    text(output, b"\n");
+    let _ = output.println("");
 }

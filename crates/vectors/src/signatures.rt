@@ -1,33 +1,88 @@
 // The signatures of 000 Annex D, against what 000 prints and what an independent program gives.
-ghost use Rattle.std.specs.Prelude.{◌≡◌, ◌≤◌, if◌then◌else◌, nat_eq};
+ghost use Rattle.std.specs.Prelude.{◌≡◌, ◌≤◌, ℕ, if◌then◌else◌, nat_eq};
 ghost use Rattle.gf2.specs.Generators.{generator16, generator32};
-ghost use Rattle.signature.specs.Signature.{octet, signature};
+ghost use Rattle.signature.specs.Signature.{signature};
 ghost use Rattle.vectors.specs.Compared.{divided, compared_all};
 
-use crate::print::{compared, decimal, hex, text};
+use crate::Run;
+use crate::print::compared;
 use crate::printed::{TABLE_D4, TABLE_D7};
 use signature::Engine;
-use std::io::Stdout;
+use std::io::{Print, Stdout};
 
-fn misprint_line(output: Stdout, name: &[u8], i: usize, printed: u64, ours: u64, digits: usize) {
-    text(output, name);
-    text(output, b": entry ");
-    decimal(output, i as u64);
-    text(output, b" is printed ");
-    hex(output, printed, digits);
-    text(output, b", its division is ");
-    hex(output, ours, digits);
-    text(output, b"\n");
+// The register of a signature: u16 of the short one, u32 of the long one.
+trait Width: Copy {
+    // How many hexadecimal digits an entry of its table has.
+    const DIGITS: usize;
+
+    ghost width: { ℕ };
+
+    ghost generator: { ℕ };
+
+    ghost number: { Self → ℕ };
+
+    // An entry's division: the octet into an empty register.
+    fn division(engine: Engine, x: u8) -> u32
+        ensures { result ≡ divided width x };
+
+    // By a table of its own, made for the engine.
+    fn signature(engine: Engine, seed: Self, octets: &[u8]) -> Self
+        ensures { number result ≡ signature width generator (number seed) octets.now };
+}
+
+impl Width for u16 {
+    const DIGITS: usize = 4;
+
+    ghost width = { 16 };
+
+    ghost generator = { generator16 };
+
+    ghost number = { λ n. n };
+
+    fn division(engine: Engine, x: u8) -> u32 {
+        u32::from(match engine {
+            Engine::Table => signature::step::<u16>(0, x),
+            Engine::Shift => signature::step_by_shift::<u16>(0, x),
+        })
+    }
+
+    fn signature(engine: Engine, seed: u16, octets: &[u8]) -> u16 {
+        let table = signature::table_for::<u16>(engine);
+        signature::sign_with::<u16>(engine, &table, seed, octets)
+    }
+}
+
+impl Width for u32 {
+    const DIGITS: usize = 8;
+
+    ghost width = { 32 };
+
+    ghost generator = { generator32 };
+
+    ghost number = { λ n. n };
+
+    fn division(engine: Engine, x: u8) -> u32 {
+        match engine {
+            Engine::Table => signature::step::<u32>(0, x),
+            Engine::Shift => signature::step_by_shift::<u32>(0, x),
+        }
+    }
+
+    fn signature(engine: Engine, seed: u32, octets: &[u8]) -> u32 {
+        let table = signature::table_for::<u32>(engine);
+        signature::sign_with::<u32>(engine, &table, seed, octets)
+    }
 }
 
 // 0 where an entry is printed as its division, else 1, with a line that shows both.
-fn misprint(output: Stdout, name: &[u8], i: usize, printed: u64, ours: u64, digits: usize) -> u64
+fn misprint(output: Stdout, name: &str, i: usize, printed: u32, ours: u32, digits: usize) -> u64
     ensures { (result ≡ (if nat_eq printed ours then 0 else 1)) × (result ≤ 1) }
 {
     if printed == ours {
         return 0;
     }
-    misprint_line(output, name, i, printed, ours, digits);
+    let _ = print!(output; "{name}: entry {i} is printed {printed:0digits$x}");
+    let _ = output.println(format_args!(", its division is {ours:0digits$x}"));
     1
 }
 
@@ -38,179 +93,62 @@ struct Compared {
     differ: u64,
 }
 
-fn shown(output: Stdout, name: &[u8], found: Compared) {
-    text(output, name);
-    text(output, b": ");
-    decimal(output, found.entries);
-    text(output, b" entries compared with their divisions, ");
-    decimal(output, found.differ);
-    text(output, b" differ\n");
-}
-
-fn short_division(engine: Engine, x: u8) -> u16
-    ensures { result ≡ octet 16 generator16 0 x }
-{
-    match engine {
-        Engine::Table => signature::step16(0, x),
-        Engine::Shift => signature::step16_by_shift(0, x),
-    }
-}
-
-fn long_division(engine: Engine, x: u8) -> u32
-    ensures { result ≡ octet 32 generator32 0 x }
-{
-    match engine {
-        Engine::Table => signature::step32(0, x),
-        Engine::Shift => signature::step32_by_shift(0, x),
-    }
-}
-
-// An entry's division: the octet into an empty register.
-fn division(engine: Engine, width: u32, x: u8) -> u64
-    ensures { result ≡ divided width x }
-{
-    if width == 16 {
-        short_division(engine, x) as u64
-    } else {
-        long_division(engine, x) as u64
-    }
-}
-
-fn wide(x: u32) -> u64
-    ensures { result ≡ x }
-{
-    x as u64
-}
-
-fn compare(
-    output: Stdout,
-    engine: Engine,
-    name: &[u8],
-    printed: &[u32; 256],
-    width: u32,
-    digits: usize,
-) -> Compared
-    ensures { result ≡ compared_all width printed.now }
+#[tactic(auto, using(crate::proofs::Compared::start, crate::proofs::Compared::again))]
+fn compare<W: Width>(run: Run, name: &str, printed: &[u32; 256]) -> Compared
+    ensures { result ≡ compared_all W.width printed.now }
 {
     let mut differ = 0;
-    let mut i = 0;
-    while i < 256 {
-        differ += misprint(
-            output,
-            name,
-            i,
-            wide(printed[i]),
-            division(engine, width, i as u8),
-            digits,
-        );
-        i += 1;
+    for (i, entry) in printed.iter().enumerate() {
+        let ours = W::division(run.engine, i as u8);
+        differ += misprint(run.output, name, i, *entry, ours, W::DIGITS);
     }
-    Compared {
-        entries: i as u64,
-        differ,
-    }
+    let entries = printed.len() as u64;
+    Compared { entries, differ }
 }
 
-fn table(
-    output: Stdout,
-    engine: Engine,
-    name: &[u8],
-    printed: &[u32; 256],
-    width: u32,
-    digits: usize,
-) {
-    shown(
-        output,
-        name,
-        compare(output, engine, name, printed, width, digits),
-    );
-}
-
-fn short_table(output: Stdout, engine: Engine) {
-    let printed = TABLE_D4;
-    table(output, engine, b"000 Table D.4", &printed, 16, 4);
-}
-
-fn long_table(output: Stdout, engine: Engine) {
-    let printed = TABLE_D7;
-    table(output, engine, b"000 Table D.7", &printed, 32, 8);
-}
-
-// Each with a table of its own, made for the engine.
-fn short_signature(engine: Engine, seed: u16, octets: &[u8]) -> u64
-    ensures { result ≡ signature 16 generator16 seed octets.now }
-{
-    let table = signature::table16_for(engine);
-    signature::signature16_with(engine, &table, seed, octets) as u64
-}
-
-fn long_signature(engine: Engine, seed: u32, octets: &[u8]) -> u64
-    ensures { result ≡ signature 32 generator32 seed octets.now }
-{
-    let table = signature::table32_for(engine);
-    signature::signature32_with(engine, &table, seed, octets) as u64
+fn table<W: Width>(run: Run, name: &str, printed: &[u32; 256]) {
+    let Compared { entries, differ } = compare::<W>(run, name, printed);
+    let _ = print!(run.output; "{name}: {entries} entries compared with their divisions");
+    let _ = run.output.println(format_args!(", {differ} differ"));
 }
 
 // 000 Figure A.1: the octets of an instance of Table A.4, and its FSP_IO_StructCRC.
-fn figure_a1(output: Stdout, engine: Engine) {
+fn figure_a1(run: Run) {
     let octets = [1u8, 7, 13, 2, 1, 0, 3, 0, 0, 0, 0];
-    compared(
-        output,
-        b"000 Figure A.1",
-        short_signature(engine, 0, &octets),
-        0x0952,
-    );
+    let ours = u16::signature(run.engine, 0, &octets);
+    compared(run.output, "000 Figure A.1", ours, 0x0952);
 }
 
 // The digits 1 to 9, as an independent program has them.
-fn digits(output: Stdout, engine: Engine) {
+fn digits(run: Run) {
     let octets = b"123456789";
-    compared(
-        output,
-        b"digits, 16 bits, seed 0",
-        short_signature(engine, 0, octets),
-        52901,
-    );
-    compared(
-        output,
-        b"digits, 16 bits, seed 1",
-        short_signature(engine, 1, octets),
-        42332,
-    );
-    compared(
-        output,
-        b"digits, 32 bits, seed 0",
-        long_signature(engine, 0, octets),
-        1822393512,
-    );
-    compared(
-        output,
-        b"digits, 32 bits, seed 1",
-        long_signature(engine, 1, octets),
-        2278983927,
-    );
+    let ours = u16::signature(run.engine, 0, octets);
+    compared(run.output, "digits, 16 bits, seed 0", ours, 52901);
+    let ours = u16::signature(run.engine, 1, octets);
+    compared(run.output, "digits, 16 bits, seed 1", ours, 42332);
+    let ours = u32::signature(run.engine, 0, octets);
+    compared(run.output, "digits, 32 bits, seed 0", ours, 1822393512);
+    let ours = u32::signature(run.engine, 1, octets);
+    compared(run.output, "digits, 32 bits, seed 1", ours, 2278983927);
 }
 
 // No octets: the seed.
-fn nothing(output: Stdout, engine: Engine) {
+fn nothing(run: Run) {
+    let ours = u16::signature(run.engine, 1, b"");
+    compared(run.output, "no octets, 16 bits, seed 1", ours, 1);
+    let ours = u32::signature(run.engine, 4294967295, b"");
     compared(
-        output,
-        b"no octets, 16 bits, seed 1",
-        short_signature(engine, 1, b""),
-        1,
-    );
-    compared(
-        output,
-        b"no octets, 32 bits, seed 4294967295",
-        long_signature(engine, 4294967295, b""),
+        run.output,
+        "no octets, 32 bits, seed 4294967295",
+        ours,
         4294967295,
     );
 }
 
-pub(crate) fn run(output: Stdout, engine: Engine) {
-    short_table(output, engine);
-    long_table(output, engine);
-    figure_a1(output, engine);
-    digits(output, engine);
-    nothing(output, engine);
+pub(crate) fn run(run: Run) {
+    table::<u16>(run, "000 Table D.4", &TABLE_D4);
+    table::<u32>(run, "000 Table D.7", &TABLE_D7);
+    figure_a1(run);
+    digits(run);
+    nothing(run);
 }

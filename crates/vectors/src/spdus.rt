@@ -1,8 +1,9 @@
 // SPDUs of port 3 with three process octets, as an independent program gives them: built, composed into an image, split from one, and read.
-use crate::print::{compared, octets};
-use answer::Answer;
+use crate::Run;
+use crate::print::{Hex, compared};
 use block::Params;
-use signature::Engine;
+use signature::{Engine, Signing};
+use spdu::{Control, Status};
 use std::io::Stdout;
 
 // MCount 5, ChFAckReq 1.
@@ -30,20 +31,41 @@ const RESPONSE_IMAGE: [u8; 9] = [0x12, 0x34, 0x56, 0x03, 0x45, 0xB5, 0x69, 0xAA,
 
 const OTHER: [u8; 2] = [0xAA, 0xBB];
 
+// The process octets of all but GENERATOR and REPLACED.
+const PROCESS: [u8; 3] = [0x12, 0x34, 0x56];
+
 fn params(mode: u8, length: u8) -> Params {
-    let mut p = block::no_params();
-    p.FSP_Port = 3;
-    p.FSP_ProtMode = mode;
-    p.SPDUInLength = length;
-    p.SPDUOutLength = length;
-    p
+    Params {
+        FSP_Port: 3,
+        FSP_ProtMode: mode,
+        SPDUInLength: length,
+        SPDUOutLength: length,
+        ..block::no_params()
+    }
+}
+
+fn with_other_data(p: Params) -> Params {
+    Params {
+        InputDataLength: 2,
+        OutputDataLength: 2,
+        ..p
+    }
 }
 
 fn request(engine: Engine, p: Params, setSD: bool, ChFAckReq: bool, out: &mut [u8]) {
-    let short = signature::table16_for(engine);
-    let long = signature::table32_for(engine);
-    let process = [0x12u8, 0x34, 0x56];
-    spdu::build_request_by(engine, &short, &long, p, 5, setSD, ChFAckReq, &process, out);
+    let short = signature::table_for::<u16>(engine);
+    let long = signature::table_for::<u32>(engine);
+    let signing = Signing {
+        engine,
+        short: &short,
+        long: &long,
+    };
+    let control = Control {
+        MCount: 5,
+        setSD,
+        ChFAckReq,
+    };
+    spdu::build_request_by(&signing, p, control, &PROCESS, out);
 }
 
 fn response(
@@ -55,154 +77,149 @@ fn response(
     process: &[u8],
     out: &mut [u8],
 ) {
-    let short = signature::table16_for(engine);
-    let long = signature::table32_for(engine);
-    spdu::build_response_by(
-        engine, &short, &long, p, true, DCount_i, SDset, false, DTimeout, process, out,
+    let short = signature::table_for::<u16>(engine);
+    let long = signature::table_for::<u32>(engine);
+    let signing = Signing {
+        engine,
+        short: &short,
+        long: &long,
+    };
+    let status = Status {
+        DCount_i,
+        SDset,
+        DCommErr: false,
+        DTimeout,
+    };
+    spdu::build_response_by(&signing, p, true, status, process, out);
+}
+
+fn octets(output: Stdout, name: &str, ours: &[u8], paper: &[u8]) {
+    compared(output, name, Hex(ours), Hex(paper));
+}
+
+fn requests(run: Run) {
+    let mut out = [0u8; 7];
+    request(run.engine, params(1, 7), false, true, &mut out);
+    octets(run.output, "request, 16 bits", &out, &REQUEST_16);
+    request(run.engine, params(1, 7), true, false, &mut out);
+    octets(
+        run.output,
+        "request with setSD, 16 bits",
+        &out,
+        &SAFE_REQUEST,
     );
-}
-
-fn requests(output: Stdout, engine: Engine) {
-    let mut out = [0u8; 7];
-    request(engine, params(1, 7), false, true, &mut out);
-    let paper = REQUEST_16;
-    octets(output, b"request, 16 bits", &out, &paper);
-    request(engine, params(1, 7), true, false, &mut out);
-    let paper = SAFE_REQUEST;
-    octets(output, b"request with setSD, 16 bits", &out, &paper);
     let mut out = [0u8; 9];
-    request(engine, params(2, 9), false, true, &mut out);
-    let paper = REQUEST_32;
-    octets(output, b"request, 32 bits", &out, &paper);
+    request(run.engine, params(2, 9), false, true, &mut out);
+    octets(run.output, "request, 32 bits", &out, &REQUEST_32);
 }
 
-fn responses(output: Stdout, engine: Engine) {
-    let process = [0x12u8, 0x34, 0x56];
+fn responses(run: Run) {
     let mut out = [0u8; 7];
-    response(engine, params(1, 7), 2, true, true, &process, &mut out);
-    let paper = RESPONSE_16;
-    octets(output, b"response, 16 bits", &out, &paper);
+    response(run.engine, params(1, 7), 2, true, true, &PROCESS, &mut out);
+    octets(run.output, "response, 16 bits", &out, &RESPONSE_16);
     let mut out = [0u8; 9];
-    response(engine, params(2, 9), 2, true, true, &process, &mut out);
-    let paper = RESPONSE_32;
-    octets(output, b"response, 32 bits", &out, &paper);
+    response(run.engine, params(2, 9), 2, true, true, &PROCESS, &mut out);
+    octets(run.output, "response, 32 bits", &out, &RESPONSE_32);
 }
 
-fn zero_replaced(output: Stdout, engine: Engine) {
+fn zero_replaced(run: Run) {
     let process = [0x00u8, 0x03, 0x3A];
     let mut out = [0u8; 7];
-    response(engine, params(1, 7), 4, false, true, &process, &mut out);
-    let paper = GENERATOR;
-    octets(output, b"response that computes 4EAB", &out, &paper);
-    response(engine, params(1, 7), 4, false, false, &process, &mut out);
-    let paper = REPLACED;
-    octets(output, b"response that computes 0", &out, &paper);
+    response(run.engine, params(1, 7), 4, false, true, &process, &mut out);
+    octets(run.output, "response that computes 4EAB", &out, &GENERATOR);
+    response(
+        run.engine,
+        params(1, 7),
+        4,
+        false,
+        false,
+        &process,
+        &mut out,
+    );
+    octets(run.output, "response that computes 0", &out, &REPLACED);
 }
 
-fn with_other_data(p: Params) -> Params {
-    let mut p = p;
-    p.InputDataLength = 2;
-    p.OutputDataLength = 2;
-    p
-}
-
-fn answered(output: Stdout, name: &[u8], answer: Answer, paper: u64) {
-    compared(output, name, answer::number(answer) as u64, paper);
-}
-
-fn composed(output: Stdout, engine: Engine) {
+fn composed(run: Run) {
     let p = with_other_data(params(1, 7));
-    let process = [0x12u8, 0x34, 0x56];
-    let other = OTHER;
     let mut image = [0u8; 9];
-    let answer = spdu::compose(engine, p, 5, false, true, &process, &other, &mut image);
-    answered(output, b"composed, answer", answer, 0);
-    let paper = REQUEST_IMAGE;
-    octets(output, b"composed", &image, &paper);
+    let control = Control {
+        MCount: 5,
+        setSD: false,
+        ChFAckReq: true,
+    };
+    let answer = spdu::compose(run.engine, p, control, &PROCESS, &OTHER, &mut image);
+    compared(run.output, "composed, answer", answer::number(answer), 0);
+    octets(run.output, "composed", &image, &REQUEST_IMAGE);
 }
 
 fn split(output: Stdout) {
     let p = with_other_data(params(1, 7));
     let image = RESPONSE_IMAGE;
-    answered(output, b"split, answer", spdu::split(p, &image), 0);
-    let paper = RESPONSE_16;
-    octets(output, b"split, SPDU", spdu::spdu_part(p, &image), &paper);
-    let paper = OTHER;
-    octets(
-        output,
-        b"split, other data",
-        spdu::other_part(p, &image),
-        &paper,
-    );
-    answered(
-        output,
-        b"one octet short, split, answer",
-        spdu::split(p, &image[..8]),
-        7,
-    );
+    let number = answer::number(spdu::split(p, &image));
+    compared(output, "split, answer", number, 0);
+    let spdu = spdu::spdu_part(p, &image);
+    octets(output, "split, SPDU", spdu, &RESPONSE_16);
+    let other = spdu::other_part(p, &image);
+    octets(output, "split, other data", other, &OTHER);
+    let number = answer::number(spdu::split(p, &image[..8]));
+    compared(output, "one octet short, split, answer", number, 7);
 }
 
-fn response_read(output: Stdout, engine: Engine) {
-    let spdu = RESPONSE_16;
-    let r = spdu::read_response(engine, params(1, 7), &spdu);
-    compared(output, b"response read, DCount_i", r.DCount_i as u64, 2);
-    compared(output, b"response read, SDset", r.SDset as u64, 1);
-    compared(output, b"response read, DCommErr", r.DCommErr as u64, 0);
-    compared(output, b"response read, DTimeout", r.DTimeout as u64, 1);
-    compared(output, b"response read, port holds", r.port_holds as u64, 1);
-    compared(
-        output,
-        b"response read, signature holds",
-        r.signature_holds as u64,
-        1,
-    );
-    compared(output, b"response read, all zero", r.all_zero as u64, 0);
+// What is read, beside what was written: the names follow the reading's.
+fn read(output: Stdout, name: &str, found: &[(&str, u8, u8)]) {
+    for &(part, ours, paper) in found {
+        let _ = print!(output; "{name} read, ");
+        compared(output, part, ours, paper);
+    }
 }
 
-fn request_read(output: Stdout, engine: Engine) {
-    let spdu = REQUEST_32;
-    let r = spdu::read_request(engine, params(2, 9), &spdu);
-    compared(output, b"request read, MCount", r.MCount as u64, 5);
-    compared(output, b"request read, setSD", r.setSD as u64, 0);
-    compared(output, b"request read, ChFAckReq", r.ChFAckReq as u64, 1);
-    compared(output, b"request read, port holds", r.port_holds as u64, 1);
-    compared(
-        output,
-        b"request read, signature holds",
-        r.signature_holds as u64,
-        1,
-    );
-    compared(output, b"request read, all zero", r.all_zero as u64, 0);
+fn response_read(run: Run) {
+    let r = spdu::read_response(run.engine, params(1, 7), &RESPONSE_16);
+    let found = [
+        ("DCount_i", r.DCount_i, 2),
+        ("SDset", u8::from(r.SDset), 1),
+        ("DCommErr", u8::from(r.DCommErr), 0),
+        ("DTimeout", u8::from(r.DTimeout), 1),
+        ("port holds", u8::from(r.port_holds), 1),
+        ("signature holds", u8::from(r.signature_holds), 1),
+        ("all zero", u8::from(r.all_zero), 0),
+    ];
+    read(run.output, "response", &found);
+}
+
+fn request_read(run: Run) {
+    let r = spdu::read_request(run.engine, params(2, 9), &REQUEST_32);
+    let found = [
+        ("MCount", r.MCount, 5),
+        ("setSD", u8::from(r.setSD), 0),
+        ("ChFAckReq", u8::from(r.ChFAckReq), 1),
+        ("port holds", u8::from(r.port_holds), 1),
+        ("signature holds", u8::from(r.signature_holds), 1),
+        ("all zero", u8::from(r.all_zero), 0),
+    ];
+    read(run.output, "request", &found);
 }
 
 // DTimeout flipped, and the port number of another port.
-fn damaged_read(output: Stdout, engine: Engine) {
+fn damaged_read(run: Run) {
     let mut spdu = RESPONSE_16;
     spdu[4] = 0x44;
-    let r = spdu::read_response(engine, params(1, 7), &spdu);
-    compared(
-        output,
-        b"damaged response read, signature holds",
-        r.signature_holds as u64,
-        0,
-    );
+    let r = spdu::read_response(run.engine, params(1, 7), &spdu);
+    let found = [("signature holds", u8::from(r.signature_holds), 0)];
+    read(run.output, "damaged response", &found);
     spdu[3] = 0x02;
-    let r = spdu::read_response(engine, params(1, 7), &spdu);
-    compared(
-        output,
-        b"damaged response read, port holds",
-        r.port_holds as u64,
-        0,
-    );
+    let r = spdu::read_response(run.engine, params(1, 7), &spdu);
+    let found = [("port holds", u8::from(r.port_holds), 0)];
+    read(run.output, "damaged response", &found);
 }
 
-pub(crate) fn run(output: Stdout, engine: Engine) {
-    requests(output, engine);
-    responses(output, engine);
-    zero_replaced(output, engine);
-    composed(output, engine);
-    split(output);
-    response_read(output, engine);
-    request_read(output, engine);
-    damaged_read(output, engine);
+pub(crate) fn run(run: Run) {
+    requests(run);
+    responses(run);
+    zero_replaced(run);
+    composed(run);
+    split(run.output);
+    response_read(run);
+    request_read(run);
+    damaged_read(run);
 }

@@ -7,4 +7,4 @@ use Rattle.block.proofs.judge.Goals as goal
 pub returns : goal.returns
 returns c =
     c.judge_by.ensures
-    ∙ ap (λ (sign : List ℕ → ℕ). judged_by sign c.args.octets.now c.args.port) (right_parameters c.args.engine _ c.table16_for-short.ensures.serves)
+    ∙ ap (λ (sign : List ℕ → ℕ). judged_by sign c.args.octets.now c.args.port) (right_parameters c.args.engine _ c.table_for-short.ensures.serves)

@@ -1,11 +1,18 @@
 -- `bench::calls::clock` meets its contract. Assumes nothing.
-use Rattle.std.proofs.Common.{◌&&◌}
-use Rattle.ranges.specs.Fields.{outside}
+use Rattle.std.proofs.Common.{◌&&◌, refl, sym, ◌∙◌}
 use Rattle.bench.specs.declared.Setting.{Setting}
 use Rattle.bench.specs.Ports.{no_port}
-use Rattle.bench.specs.Calls.{clock_act, safe_in_hold, safe_out_hold}
-use Rattle.bench.proofs.Acted.{act-after, no_block, nowhere_clock}
+use Rattle.bench.specs.Calls.{clock_act, safe_in_hold, safe_out_hold, asked}
+use Rattle.bench.proofs.Acted.{found, nowhere, no_block}
 use Rattle.bench.proofs.calls.clock.Goals as goal
+
+pub returns-in_default : goal.returns-in_default
+unfolding asked
+returns-in_default c =
+    let x = c.args in
+    c.refused.ensures
+    ∙ nowhere x.b x.port x.at (λ o (s : Setting). clock_act o s x.at (safe_in_hold s.params x.safe_in.now && safe_out_hold s.params x.safe_out.now))
+    (λ i h. c.in_default.not-Some i (c.place_of.ensures.value ∙ h)) (λ s. refl)
 
 pub happened-requires-clause-no_block : goal.happened-requires-clause-no_block
 happened-requires-clause-no_block c = rw c.clock_act.ensures (no_block _ _)
@@ -14,7 +21,6 @@ pub returns : goal.returns
 unfolding no_port
 returns c =
     let x = c.args in
-    simp (c.happened.ensures x.at, c.clock_act.ensures, c.safe_out_hold.ensures, c.safe_in_hold.ensures, c.place_of-place.ensures.0)
-    (act-after x.b x.port x.at
-    (λ (s : Setting). clock_act (outside 1 8 x.port) s x.at (safe_in_hold s.params x.safe_in.now && safe_out_hold s.params x.safe_out.now))
-    (λ e s. nowhere_clock (outside 1 8 x.port) e s x.at (safe_in_hold s.params x.safe_in.now && safe_out_hold s.params x.safe_out.now)))
+    simp (c.happened.ensures x.at, c.clock_act.ensures, c.safe_hold.ensures, c.safe_hold-2.ensures)
+    (found x.b x.port x.at (λ o (s : Setting). clock_act o s x.at (safe_in_hold s.params x.safe_in.now && safe_out_hold s.params x.safe_out.now))
+    (sym c.place_of.ensures.value ∙ c.in-Some.is))

@@ -1,14 +1,11 @@
 -- `bench::columns::all_bins_of` meets its contract. Assumes nothing.
-use Rattle.std.proofs.Common.{◌≡◌, length, sym, ap, rules}
+use Rattle.std.proofs.Common.{[], rules}
+use Rattle.bench.specs.declared.Port.{Port}
 use Rattle.bench.specs.Ports.{no_port}
-use Rattle.bench.specs.Columns.{bins_in}
-use Rattle.bench.proofs.Beside.{eight}
+use Rattle.bench.proofs.Beside.{column}
 use Rattle.bench.proofs.columns.all_bins_of.Goals as goal
 
 pub returns : goal.returns
-unfolding no_port
 returns c =
-    let ports = c.args.b.ports in
-    let n : length ports ≡ 8 = search (rules, c.well_formed) in
-    simp (c.counts_of-p1.ensures, c.counts_of-p2.ensures, c.counts_of-p3.ensures, c.counts_of-p4.ensures, c.counts_of-p5.ensures, c.counts_of-p6.ensures, c.counts_of-p7.ensures, c.counts_of-p8.ensures)
-    (sym (ap bins_in (eight ports no_port n)))
+    column (λ (p : Port). p.bins) c.args.b.ports no_port [] c.map.result (search (rules, c.well_formed)) c.map.ensures.items.long
+    (λ i h. let k = c.map.ensures.items.at i no_port [] h in search (rules, k))

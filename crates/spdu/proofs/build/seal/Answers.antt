@@ -9,16 +9,18 @@ use Rattle.spdu.proofs.build.seal.Goals as goal
 
 pub returns-then-mode-eq1 : goal.returns-then-mode-eq1
 returns-then-mode-eq1 c =
-    let t = c.args.short.now in
+    let a = c.args in
+    let s = a.signing.now in
     c.replace.ensures
     ∙ ap replaced
-    (sealed c.args.engine 16 generator16 8 t c.args.process.now c.args.port c.args.control c.signature16_with-register.ensures c.step16_with-register.ensures c.step16_with.ensures
-    ∙ ap (λ (b : Bool). signed_by c.args.engine (cond b 16 32) (cond b generator16 generator32) (cond b 8 4) (cond b t c.args.long.now) 1 (contents_with c.args.process.now c.args.port c.args.control)) (sym (eq-eqb c.args.mode 1 c.if-mode-eq1.true)))
+    (sealed s.engine 16 generator16 8 s.short.now a.process.now a.port a.control c.sign-register.ensures c.step-register.ensures c.step.ensures
+    ∙ ap (λ (b : Bool). signed_by s.engine (cond b 16 32) (cond b generator16 generator32) (cond b 8 4) (cond b s.short.now s.long.now) 1 (contents_with a.process.now a.port a.control)) (sym (eq-eqb a.mode 1 c.if-mode-eq1.true)))
 
 pub returns-else-mode-eq1 : goal.returns-else-mode-eq1
 returns-else-mode-eq1 c =
-    let t = c.args.long.now in
+    let a = c.args in
+    let s = a.signing.now in
     c.replace-else-mode-eq1.ensures
     ∙ ap replaced
-    (sealed c.args.engine 32 generator32 4 t c.args.process.now c.args.port c.args.control c.signature32_with-register.ensures c.step32_with-register.ensures c.step32_with.ensures
-    ∙ ap (λ (b : Bool). signed_by c.args.engine (cond b 16 32) (cond b generator16 generator32) (cond b 8 4) (cond b c.args.short.now t) 1 (contents_with c.args.process.now c.args.port c.args.control)) (sym (ne_eqb c.args.mode 1 c.if-mode-eq1.false)))
+    (sealed s.engine 32 generator32 4 s.long.now a.process.now a.port a.control c.sign-register-else-mode-eq1.ensures c.step-register-else-mode-eq1.ensures c.step-else-mode-eq1.ensures
+    ∙ ap (λ (b : Bool). signed_by s.engine (cond b 16 32) (cond b generator16 generator32) (cond b 8 4) (cond b s.short.now s.long.now) 1 (contents_with a.process.now a.port a.control)) (sym (ne_eqb a.mode 1 c.if-mode-eq1.false)))

@@ -1,10 +1,9 @@
--- `spdu::plain::read_response` meets its contract: the tables are right. Assumes nothing.
+-- `spdu::plain::read_response` meets its contract: the engine signs as bits do. Assumes nothing.
 use Rattle.std.proofs.Common.{ℕ, List, ap, ◌∙◌}
 use Rattle.spdu.specs.Fields.{response_by}
-use Rattle.spdu.proofs.Engines.{right_method}
 use Rattle.spdu.proofs.plain.read_response.Goals as goal
 
 pub returns : goal.returns
 returns c =
-    c.read_response_by.ensures
-    ∙ ap (λ (sign : ℕ → List ℕ → ℕ). response_by sign c.args.p c.args.s.now) (right_method c.args.engine _ _ c.table16_for-short.ensures.serves c.table32_for-long.ensures.serves)
+    let a = c.args in
+    c.read_response_by.ensures ∙ ap (λ (sign : ℕ → List ℕ → ℕ). response_by sign a.p a.s.now) c.signing-signing.ensures
