@@ -3,8 +3,7 @@ use mathlib.Core.Path.{◌≡◌, refl}
 use mathlib.Core.List.{List, [], ◌∷◌, map}
 use Prim.Native.Nat.{ℕ}
 use lib.Dec.{leb, lit<}
-use Rattle.answer.specs.declared.Answer.TheVariants.{
-  Taken,
+use Rattle.answer.specs.declared.Refusal.TheVariants.{
   BlockSize,
   BlockId,
   PortMode,
@@ -19,7 +18,7 @@ use Rattle.answer.specs.declared.Answer.TheVariants.{
   PortMismatch,
   Record,
 }
-use Rattle.answer.specs.Answers.{number_of, offset_of}
+use Rattle.answer.specs.Answers.{Taken, number_of, offset_of}
 use Rattle.answer.specs.Rules.{Rule, rule, answer_by, First, Kept}
 use Rattle.answer.proofs.Exact.{given_exactly, taken_exactly}
 
@@ -50,7 +49,7 @@ pub each-answer :
 each-answer = refl
 
 pub given_met : First (broken_from 7) 7
-given_met = (given_exactly (broken_from 7) tt tt 7 (lit< tt)).0 refl
+given_met = (given_exactly (broken_from 7) tt 7 (lit< tt)).0 refl
 
 pub taken_met : Kept (broken_from 13)
-taken_met = (taken_exactly (broken_from 13) tt tt).0 refl
+taken_met = (taken_exactly (broken_from 13)).0 refl

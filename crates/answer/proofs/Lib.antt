@@ -1,2 +1,4 @@
 pub mod Exact
 pub mod Arises
+pub mod Values
+pub mod InTurn

@@ -1,8 +1,7 @@
 -- Document 01, "Answer numbers": the number of each answer, and the offset that is returned with it. Assumes nothing.
-use Rattle.std.specs.Prelude.{ℕ, Bool, eqb}
-use Rattle.answer.specs.declared.Answer.{Answer}
-use Rattle.answer.specs.declared.Answer.TheVariants.{
-  Taken,
+use Rattle.std.specs.Prelude.{ℕ, Bool, Result, Ok, Err, ⊤, is_ok}
+use Rattle.answer.specs.declared.Refusal.{Refusal}
+use Rattle.answer.specs.declared.Refusal.TheVariants.{
   BlockSize,
   BlockId,
   PortMode,
@@ -18,39 +17,63 @@ use Rattle.answer.specs.declared.Answer.TheVariants.{
   Record,
 }
 
--- the table's first column
-abbrev pub number_of : Answer → ℕ
-number_of Taken = 0
-number_of BlockSize = 1
-number_of BlockId = 2
-number_of PortMode = 3
-number_of NoScl = 4
-number_of (FieldRange at) = 5
-number_of (Signature at) = 6
-number_of Buffer = 7
-number_of NoPort = 8
-number_of NotRunning = 9
-number_of SpduLength = 10
-number_of NoSamples = 11
-number_of PortMismatch = 12
-number_of Record = 13
+-- TAKEN, or why a call is refused
+abbrev pub Answer : Type 0
+Answer = Result ⊤ Refusal
+
+abbrev pub Taken : Answer
+Taken = Ok tt
+
+-- the table's first column, below TAKEN
+abbrev pub refusal_number : Refusal → ℕ
+refusal_number BlockSize = 1
+refusal_number BlockId = 2
+refusal_number PortMode = 3
+refusal_number NoScl = 4
+refusal_number (FieldRange at) = 5
+refusal_number (Signature at) = 6
+refusal_number Buffer = 7
+refusal_number NoPort = 8
+refusal_number NotRunning = 9
+refusal_number SpduLength = 10
+refusal_number NoSamples = 11
+refusal_number PortMismatch = 12
+refusal_number Record = 13
 
 -- "Offsets are 0 for numbers other than 5 and 6."
-abbrev pub offset_of : Answer → ℕ
-offset_of Taken = 0
-offset_of BlockSize = 0
-offset_of BlockId = 0
-offset_of PortMode = 0
-offset_of NoScl = 0
-offset_of (FieldRange at) = at
-offset_of (Signature at) = at
-offset_of Buffer = 0
-offset_of NoPort = 0
-offset_of NotRunning = 0
-offset_of SpduLength = 0
-offset_of NoSamples = 0
-offset_of PortMismatch = 0
-offset_of Record = 0
+abbrev pub refusal_offset : Refusal → ℕ
+refusal_offset BlockSize = 0
+refusal_offset BlockId = 0
+refusal_offset PortMode = 0
+refusal_offset NoScl = 0
+refusal_offset (FieldRange at) = at
+refusal_offset (Signature at) = at
+refusal_offset Buffer = 0
+refusal_offset NoPort = 0
+refusal_offset NotRunning = 0
+refusal_offset SpduLength = 0
+refusal_offset NoSamples = 0
+refusal_offset PortMismatch = 0
+refusal_offset Record = 0
 
-abbrev pub is_taken : Answer → Bool
-is_taken a = eqb (number_of a) 0
+-- the same of a whole answer, also of one that comes with a value: TAKEN has the number 0
+abbrev pub number_of : {A : Type 0} → Result A Refusal → ℕ
+number_of (Ok x) = 0
+number_of (Err r) = refusal_number r
+
+abbrev pub offset_of : {A : Type 0} → Result A Refusal → ℕ
+offset_of (Ok x) = 0
+offset_of (Err r) = refusal_offset r
+
+abbrev pub is_taken : {A : Type 0} → Result A Refusal → Bool
+is_taken a = is_ok a
+
+-- the value x with TAKEN; of a refusal none
+abbrev pub with_value : {A : Type 0} → Answer → A → Result A Refusal
+with_value (Ok t) x = Ok x
+with_value (Err r) x = Err r
+
+-- the answer alone
+abbrev pub without_value : {A : Type 0} → Result A Refusal → Answer
+without_value (Ok x) = Taken
+without_value (Err r) = Err r

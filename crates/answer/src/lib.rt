@@ -1,14 +1,13 @@
-// Document 01's answer numbers, and how a call's rules lead to one.
+// Document 01's answers, and how a call's rules lead to one.
 #![tactic(auto)]
 
 ghost use Rattle.std.specs.Prelude.{◌≡◌};
-ghost use Rattle.answer.specs.Answers.{number_of, offset_of, is_taken};
+ghost use Rattle.answer.specs.Answers.{Taken, refusal_number, refusal_offset, number_of, offset_of};
 ghost use Rattle.answer.specs.Rules.{refused};
 
-// One case a number of document 01's table, in its order. A refusal that names a place in a parameter block holds its offset.
-#[derive(Clone, Copy)]
-pub enum Answer {
-    Taken,
+// One case a refusal of document 01's table, in its order. One that names a place in a parameter block holds its offset.
+#[derive(Clone, Copy, Debug, PartialEq, Eq)]
+pub enum Refusal {
     BlockSize,
     BlockId,
     PortMode,
@@ -24,62 +23,57 @@ pub enum Answer {
     Record,
 }
 
-pub fn number(answer: Answer) -> u8
+// A call's answer: TAKEN, or why it is refused.
+pub type Answer = Result<(), Refusal>;
+
+impl Refusal {
+    pub fn number(self) -> u8
+        ensures { result ≡ refusal_number self }
+    {
+        match self {
+            Refusal::BlockSize => 1,
+            Refusal::BlockId => 2,
+            Refusal::PortMode => 3,
+            Refusal::NoScl => 4,
+            Refusal::FieldRange(_) => 5,
+            Refusal::Signature(_) => 6,
+            Refusal::Buffer => 7,
+            Refusal::NoPort => 8,
+            Refusal::NotRunning => 9,
+            Refusal::SpduLength => 10,
+            Refusal::NoSamples => 11,
+            Refusal::PortMismatch => 12,
+            Refusal::Record => 13,
+        }
+    }
+
+    // 0 for numbers other than 5 and 6.
+    pub fn offset(self) -> u8
+        ensures { result ≡ refusal_offset self }
+    {
+        match self {
+            Refusal::FieldRange(at) | Refusal::Signature(at) => at,
+            _ => 0,
+        }
+    }
+}
+
+// The number of an answer, also of one that comes with a value.
+pub fn number<T: Copy>(answer: Result<T, Refusal>) -> u8
     ensures { result ≡ number_of answer }
 {
-    match answer {
-        Answer::Taken => 0,
-        Answer::BlockSize => 1,
-        Answer::BlockId => 2,
-        Answer::PortMode => 3,
-        Answer::NoScl => 4,
-        Answer::FieldRange(_) => 5,
-        Answer::Signature(_) => 6,
-        Answer::Buffer => 7,
-        Answer::NoPort => 8,
-        Answer::NotRunning => 9,
-        Answer::SpduLength => 10,
-        Answer::NoSamples => 11,
-        Answer::PortMismatch => 12,
-        Answer::Record => 13,
-    }
+    answer.err().map_or(0, |refusal| refusal.number())
 }
 
-// 0 for numbers other than 5 and 6.
-pub fn offset(answer: Answer) -> u8
+pub fn offset<T: Copy>(answer: Result<T, Refusal>) -> u8
     ensures { result ≡ offset_of answer }
 {
-    match answer {
-        Answer::Taken => 0,
-        Answer::BlockSize => 0,
-        Answer::BlockId => 0,
-        Answer::PortMode => 0,
-        Answer::NoScl => 0,
-        Answer::FieldRange(at) => at,
-        Answer::Signature(at) => at,
-        Answer::Buffer => 0,
-        Answer::NoPort => 0,
-        Answer::NotRunning => 0,
-        Answer::SpduLength => 0,
-        Answer::NoSamples => 0,
-        Answer::PortMismatch => 0,
-        Answer::Record => 0,
-    }
+    answer.err().map_or(0, |refusal| refusal.offset())
 }
 
-pub fn is_taken(answer: Answer) -> bool
-    ensures { result ≡ is_taken answer }
+// One rule of a call. `refuse_if(..)?` goes on to the next where the rule is kept, so that the first broken one answers.
+pub fn refuse_if(broken: bool, refusal: Refusal) -> Answer
+    ensures { result ≡ refused Taken broken refusal }
 {
-    number(answer) == 0
-}
-
-// One rule of a call: an earlier refusal stays; else a broken rule refuses.
-pub fn refuse(answer: Answer, broken: bool, refusal: Answer) -> Answer
-    ensures { result ≡ refused answer broken refusal }
-{
-    if is_taken(answer) & broken {
-        refusal
-    } else {
-        answer
-    }
+    if broken { Err(refusal) } else { Ok(()) }
 }

@@ -1,17 +1,19 @@
 -- Each call's answer is the number that 01's table gives, and a refused call changes nothing and writes no buffer. Assumes nothing.
 use Prim.Native.Nat.{ℕ, ◌<◌}
-use mathlib.Core.Path.{◌≡◌, refl, sym, ap}
+use mathlib.Core.Path.{◌≡◌, refl, sym, ap, ◌∙◌}
 use mathlib.Core.Logic.{◌↔◌}
 use mathlib.Core.Bool.{Bool, true, false, cond}
 use mathlib.Core.List.{List, [], ◌∷◌, ◌++◌}
 use lib.ListN.{length, take, drop, take-append-drop}
-use Rattle.answer.specs.declared.Answer.{Answer}
-use Rattle.answer.specs.declared.Answer.TheVariants.{Taken}
-use Rattle.answer.specs.Answers.{is_taken}
+use Rattle.answer.specs.Answers.{Answer, Taken, is_taken, without_value}
 use Rattle.answer.specs.Rules.{Rule, answer_by, answer_at, First, Kept}
 use Rattle.answer.proofs.Exact.{given_exactly, taken_exactly}
-use Rattle.block.specs.declared.Judged.{Judged}
-use Rattle.block.specs.Rules.{judged}
+use Rattle.std.specs.Prelude.{Result, Ok, Err}
+use Rattle.answer.specs.declared.Refusal.{Refusal}
+use Rattle.answer.proofs.Values.{answer_alone, answer_taken}
+use Rattle.block.specs.declared.Params.{Params}
+use Rattle.block.specs.Table22.{params_of}
+use Rattle.block.specs.Rules.{judged, rules_on}
 use Rattle.scl.specs.declared.Mark.{Mark}
 use Rattle.spdu.specs.Built.{built_as, buffers_hold}
 use Rattle.spdu.specs.Image as image
@@ -21,34 +23,27 @@ use Rattle.scl.proofs.Cases.{no}
 use Rattle.bench.specs.declared.Port.{Port}
 use Rattle.bench.specs.declared.End.{End}
 use Rattle.bench.specs.declared.Bench.{Bench}
-use Rattle.bench.specs.declared.Act.TheVariants.{Refused, Accepted, Happens}
 use Rattle.bench.specs.Methods.{annex_d}
 use Rattle.bench.specs.Ports.{port_at, step_of, stored, said, silent}
 use Rattle.bench.specs.Calls.{call_rules, asked, asked_by_block, done, placed, response_at, request_at, clock_at, operator_at, parameters_at}
 use Rattle.bench.specs.Images.{compose_answer, composed, build_answer, response_out, split_answer, spdu_part, other_part}
-use Rattle.bench.specs.Handing.{handed_to, handed_out}
+use Rattle.bench.specs.Handing.{part_at, hand_rules, handed_to, handed_out}
 use Rattle.bench.specs.Shown.{trend_of, bins_of, master_of, device_of}
 use Rattle.bench.specs.History.{NoReading, Compose, BuildResponse, Split, HandOn, Trend, Bins, ShowMaster, ShowDevice, Call, SetParameters, ReceiveResponse, ReceiveRequest, Clock, Operator, WithoutReading, addressed, rules_without_reading, rules_of, answer_without_reading, answer_of, after, history, result_of, history_by}
-use Rattle.bench.proofs.Taken.{taken_is, on_buffers_lem, both_kept}
+use Rattle.bench.proofs.Taken.{on_buffers_lem, both_kept}
 use Rattle.bench.proofs.Index.{placed-refused}
 
 -- ---- the answer
 
 pub asked-answer : (p : Port) (at : ℕ) (a : Answer) (h : Happening) → (done p at (asked a h)).reply.answer ≡ a
 unfolding done asked step_of stored said silent
-asked-answer p at a h = go (is_taken a) refl
-  where
-    go : (b : Bool) → is_taken a ≡ b → (done p at (cond b (Happens h) (Refused a))).reply.answer ≡ a
-    go true e = taken_is a e
-    go false e = refl
+asked-answer p at (Ok t) h = refl
+asked-answer p at (Err r) h = refl
 
-pub block-answer : (p : Port) (at : ℕ) (j : Judged) → (done p at (asked_by_block j)).reply.answer ≡ j.answer
+pub block-answer : (p : Port) (at : ℕ) (j : Result Params Refusal) → (done p at (asked_by_block j)).reply.answer ≡ without_value j
 unfolding done asked_by_block silent
-block-answer p at j = go (is_taken j.answer) refl
-  where
-    go : (b : Bool) → is_taken j.answer ≡ b → (done p at (cond b (Accepted j.params) (Refused j.answer))).reply.answer ≡ j.answer
-    go true e = taken_is j.answer e
-    go false e = refl
+block-answer p at (Ok q) = refl
+block-answer p at (Err r) = refl
 
 answer_without_reading_lem : (port : ℕ) (p : Port) (act : NoReading) → answer_without_reading annex_d port p act ≡ answer_by Taken (rules_without_reading port p act)
 unfolding answer_without_reading rules_without_reading trend_of bins_of master_of device_of compose_answer build_answer split_answer handed_to
@@ -58,15 +53,15 @@ answer_without_reading_lem port p (BuildResponse process out) =
     on_buffers_lem (answer_by Taken (call_rules port p.setting)) (buffers_hold p.setting.params.FSP_ProtMode p.setting.params.SPDUInLength (length process) (length out))
 answer_without_reading_lem port p (Split octets) =
     on_buffers_lem (answer_by Taken (call_rules port p.setting)) (image.splitter_holds p.setting.params (length octets))
-answer_without_reading_lem port p (HandOn end mark spdu safe out) = refl
-answer_without_reading_lem port p Trend = refl
-answer_without_reading_lem port p Bins = refl
-answer_without_reading_lem port p ShowMaster = refl
-answer_without_reading_lem port p ShowDevice = refl
+answer_without_reading_lem port p (HandOn end mark spdu safe out) = answer_alone (answer_by Taken (rules_without_reading port p (HandOn end mark spdu safe out))) _
+answer_without_reading_lem port p Trend = answer_alone (answer_by Taken (rules_without_reading port p Trend)) _
+answer_without_reading_lem port p Bins = answer_alone (answer_by Taken (rules_without_reading port p Bins)) _
+answer_without_reading_lem port p ShowMaster = answer_alone (answer_by Taken (rules_without_reading port p ShowMaster)) _
+answer_without_reading_lem port p ShowDevice = answer_alone (answer_by Taken (rules_without_reading port p ShowDevice)) _
 
 pub answer_is : (b : Bench) (c : Call) → answer_of b c ≡ answer_by Taken (rules_of (port_at b (addressed c)) c)
 unfolding result_of rules_of addressed placed silent
-answer_is b (SetParameters port at octets) = block-answer (port_at b port) at (judged octets port)
+answer_is b (SetParameters port at octets) = block-answer (port_at b port) at (judged octets port) ∙ answer_alone (answer_by Taken (rules_on octets port)) (params_of octets)
 answer_is b (ReceiveResponse port at spdu safe) = asked-answer (port_at b port) at _ _
 answer_is b (ReceiveRequest port at spdu safe) = asked-answer (port_at b port) at _ _
 answer_is b (Clock port at safe_in safe_out) = asked-answer (port_at b port) at _ _
@@ -82,22 +77,22 @@ Exactly rules =
 
 exactly_without_reading : (port : ℕ) (p : Port) (act : NoReading) → Exactly (rules_without_reading port p act)
 unfolding rules_without_reading
-exactly_without_reading port p (Compose process other octets) = (taken_exactly _ tt tt, given_exactly _ tt tt)
-exactly_without_reading port p (BuildResponse process out) = (taken_exactly _ tt tt, given_exactly _ tt tt)
-exactly_without_reading port p (Split octets) = (taken_exactly _ tt tt, given_exactly _ tt tt)
-exactly_without_reading port p (HandOn end mark spdu safe out) = (taken_exactly _ tt tt, given_exactly _ tt tt)
-exactly_without_reading port p Trend = (taken_exactly _ tt tt, given_exactly _ tt tt)
-exactly_without_reading port p Bins = (taken_exactly _ tt tt, given_exactly _ tt tt)
-exactly_without_reading port p ShowMaster = (taken_exactly _ tt tt, given_exactly _ tt tt)
-exactly_without_reading port p ShowDevice = (taken_exactly _ tt tt, given_exactly _ tt tt)
+exactly_without_reading port p (Compose process other octets) = (taken_exactly _, given_exactly _ tt)
+exactly_without_reading port p (BuildResponse process out) = (taken_exactly _, given_exactly _ tt)
+exactly_without_reading port p (Split octets) = (taken_exactly _, given_exactly _ tt)
+exactly_without_reading port p (HandOn end mark spdu safe out) = (taken_exactly _, given_exactly _ tt)
+exactly_without_reading port p Trend = (taken_exactly _, given_exactly _ tt)
+exactly_without_reading port p Bins = (taken_exactly _, given_exactly _ tt)
+exactly_without_reading port p ShowMaster = (taken_exactly _, given_exactly _ tt)
+exactly_without_reading port p ShowDevice = (taken_exactly _, given_exactly _ tt)
 
 pub exactly : (p : Port) (c : Call) → Exactly (rules_of p c)
 unfolding rules_of
-exactly p (SetParameters port at octets) = (taken_exactly _ tt tt, given_exactly _ tt tt)
-exactly p (ReceiveResponse port at spdu safe) = (taken_exactly _ tt tt, given_exactly _ tt tt)
-exactly p (ReceiveRequest port at spdu safe) = (taken_exactly _ tt tt, given_exactly _ tt tt)
-exactly p (Clock port at safe_in safe_out) = (taken_exactly _ tt tt, given_exactly _ tt tt)
-exactly p (Operator port at setSD_C ChFAck_C safe) = (taken_exactly _ tt tt, given_exactly _ tt tt)
+exactly p (SetParameters port at octets) = (taken_exactly _, given_exactly _ tt)
+exactly p (ReceiveResponse port at spdu safe) = (taken_exactly _, given_exactly _ tt)
+exactly p (ReceiveRequest port at spdu safe) = (taken_exactly _, given_exactly _ tt)
+exactly p (Clock port at safe_in safe_out) = (taken_exactly _, given_exactly _ tt)
+exactly p (Operator port at setSD_C ChFAck_C safe) = (taken_exactly _, given_exactly _ tt)
 exactly p (WithoutReading port act) = exactly_without_reading port p act
 
 -- ---- a refused call changes nothing
@@ -156,6 +151,9 @@ split_taken port p octets e =
     let k = both_kept (answer_by Taken (call_rules port p.setting)) (image.splitter_holds params (length octets)) e in
     rw (k.0, k.1) (take-append-drop params.SPDUInLength octets, sym (spdu-length params octets k.1))
 
-pub handed-refused : (port : ℕ) (p : Port) (e : End) (mark : Mark) (spdu safe out : List ℕ) → is_taken (handed_to annex_d port p e mark spdu safe (length out)).answer ≡ false → handed_out annex_d port p e mark spdu safe out ≡ out
+pub handed-refused : (port : ℕ) (p : Port) (e : End) (mark : Mark) (spdu safe out : List ℕ) → is_taken (handed_to annex_d port p e mark spdu safe (length out)) ≡ false → handed_out annex_d port p e mark spdu safe out ≡ out
 unfolding handed_to handed_out
-handed-refused port p e mark spdu safe out t = simp t
+handed-refused port p e mark spdu safe out t =
+    let a = answer_by Taken (hand_rules annex_d port p e mark spdu safe (length out)) in
+    let f : is_taken a ≡ false = sym (answer_taken a (length (part_at annex_d e p mark spdu safe))) ∙ t in
+    simp f

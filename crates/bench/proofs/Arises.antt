@@ -7,9 +7,9 @@ use mathlib.Core.Bool.{Bool, true, false, cond}
 use mathlib.Core.List.{List, [], ◌∷◌, ◌++◌, map}
 use lib.Dec.{eqb, leb}
 use lib.ListN.{length, take, drop, get_or, replicate}
-use Rattle.answer.specs.declared.Answer.{Answer}
-use Rattle.answer.specs.declared.Answer.TheVariants.{Taken, Signature, Buffer, NoPort, NotRunning, SpduLength, NoSamples}
-use Rattle.answer.specs.Answers.{is_taken}
+use Rattle.std.specs.Prelude.{Err}
+use Rattle.answer.specs.declared.Refusal.TheVariants.{Signature, Buffer, NoPort, NotRunning, SpduLength, NoSamples}
+use Rattle.answer.specs.Answers.{Answer, Taken, is_taken, without_value}
 use Rattle.answer.specs.Rules.{answer_by}
 use Rattle.block.specs.Table22.{params_of}
 use Rattle.block.proofs.Arises.{good, octets_of_lem}
@@ -37,7 +37,7 @@ use Rattle.fs_device.specs.History as deviceSpecs
 use Rattle.fs_device.specs.History.{device_after, passed_since, had_error, had_timeout, had_error_or_timeout}
 use Rattle.histogram.specs.Samples.{bin_count, in_bin, limit, sum_of, lowest_of, highest_of}
 use Rattle.histogram.specs.Counted as counted
-use Rattle.histogram.specs.Trends.{Shows, zero}
+use Rattle.histogram.specs.Trends.{Shows, zero, point_in}
 use Rattle.samples.specs.Tallied.{tallied_by}
 use Rattle.samples.specs.Samples.{releases_by, sent_since, passed_for_count, time_of, is_sample, samples}
 use Rattle.bench.specs.declared.Port.{Port}
@@ -48,7 +48,7 @@ use Rattle.bench.specs.Calls as calls
 use Rattle.bench.specs.Images.{compose_answer, composed, build_answer, response_out, split_answer, spdu_part, other_part}
 use Rattle.bench.specs.declared.End.TheVariants as end
 use Rattle.bench.specs.Handing.{handed_to, handed_out}
-use Rattle.bench.specs.Shown.{trend_of, bins_of}
+use Rattle.bench.specs.Shown.{trend_of, bins_of, told_bins}
 use Rattle.bench.specs.History.{Compose, BuildResponse, HandOn, Call, SetParameters, ReceiveResponse, ReceiveRequest, Clock, WithoutReading, answer_without_reading, written_without_reading, addressed, answer_of, after, history, addressing, goes_on, extended, since, since_block, MatchesSince, Matches, Arising, block_in, OctetsIn, no_call, one_more, octets_out, Operator, Split, Trend, Bins, ShowMaster, ShowDevice, rules_of, rules_without_reading, result_of, history_by}
 use Rattle.bench.proofs.Answers.{refused_same, left_out, compose_refused, build_refused, split_refused, split_taken, handed-refused}
 use Rattle.bench.proofs.AtPort.{eight, taken_at, taken_at_lem, other_at, others}
@@ -194,35 +194,35 @@ matches_met = rw asked.block at (matches 1 refl worked)
 
 pub trend_shown_met :
     let counted = take limit (samples 1000 100 past) in
-    Shows (sum_of counted) (length counted) (lowest_of counted) (highest_of counted) (trend_of 1 port).point
+    Shows (sum_of counted) (length counted) (lowest_of counted) (highest_of counted) (point_in (trend_of 1 port))
 trend_shown_met = trend_shown 1 refl port 1000 (params_of good) past matches_met (rw asked.one_sample (omega arith))
 
-pub bins_shown_met : (i : ℕ) → i < bin_count → get_or (bins_of 1 port).bins i 0 ≡ in_bin 100 i (take limit (samples 1000 100 past))
+pub bins_shown_met : (i : ℕ) → i < bin_count → get_or (told_bins (bins_of 1 port)).bins i 0 ≡ in_bin 100 i (take limit (samples 1000 100 past))
 bins_shown_met i h = bins_shown 1 refl port 1000 (params_of good) past matches_met i h
 
-pub bins_many_met : length (bins_of 1 port).bins ≡ bin_count
+pub bins_many_met : length (told_bins (bins_of 1 port)).bins ≡ bin_count
 bins_many_met = bins_many 1 refl port 1000 (params_of good) past matches_met
 
-pub total_shown_met : (bins_of 1 port).total ≡ length (take limit (samples 1000 100 past))
+pub total_shown_met : (told_bins (bins_of 1 port)).total ≡ length (take limit (samples 1000 100 past))
 total_shown_met = total_shown 1 refl port 1000 (params_of good) past matches_met
 
 -- the one sample, 10 of 100, has the bin 3
-pub one_shown : (get_or (bins_of 1 port).bins 3 0 ≡ 1) × ((bins_of 1 port).total ≡ 1)
+pub one_shown : (get_or (told_bins (bins_of 1 port)).bins 3 0 ≡ 1) × ((told_bins (bins_of 1 port)).total ≡ 1)
 unfolding limit in_bin
 one_shown = (rw asked.one_sample at (bins_shown_met 3 (omega arith)), rw asked.one_sample at total_shown_met)
 
-pub refused_shown_met : NoneShown (bins_of 9 port)
+pub refused_shown_met : NoneShown (told_bins (bins_of 9 port))
 unfolding bins_of
 refused_shown_met = refused_shown 9 port refl
 
-pub refused_trend_met : (trend_of 9 port).point ≡ record { mean = zero; lowest = zero; highest = zero }
+pub refused_trend_met : point_in (trend_of 9 port) ≡ record { mean = zero; lowest = zero; highest = zero }
 unfolding trend_of
 refused_trend_met = refused_trend 9 port refl
 
-pub frozen_shown_met : (bins_of 1 port).frozen ≡ leb limit (length (samples 1000 100 past))
+pub frozen_shown_met : (told_bins (bins_of 1 port)).frozen ≡ leb limit (length (samples 1000 100 past))
 frozen_shown_met = frozen_shown 1 refl port 1000 (params_of good) past matches_met
 
-pub trend_answer_met : (trend_of 1 port).answer ≡ cond (eqb (length (samples 1000 100 past)) 0) NoSamples Taken
+pub trend_answer_met : without_value (trend_of 1 port) ≡ cond (eqb (length (samples 1000 100 past)) 0) (Err NoSamples) Taken
 trend_answer_met = trend_answer 1 refl port 1000 (params_of good) past matches_met
 
 pub refused_same_met : after new_bench refused ≡ new_bench
@@ -285,7 +285,7 @@ pub record Handed : Type 0 where
   clock_hands_on_in : handed (calls.clock_at 1 begun 1005 safe safe).reply.master [] ≡ safe
   clock_hands_on_out : handed (calls.clock_at 1 begun 1005 safe safe).reply.device [] ≡ safe
   operator_hands_on : handed (calls.operator_at 1 begun 1005 true false safe).reply.master [] ≡ safe
-  refused_hands_on : (calls.done begun 1005 (calls.asked NoPort (happening.Clock 1005))).reply ≡ silent NoPort
+  refused_hands_on : (calls.done begun 1005 (calls.asked (Err NoPort) (happening.Clock 1005))).reply ≡ silent (Err NoPort)
   master_fresh_only : masterSpecs.FreshBy begun.live.master begun.setting.params.FSP_WatchdogTime (happening.Response 1010 read)
   device_fresh_only : deviceSpecs.FreshBy before.live.device before.setting.params.FSP_WatchdogTime (happening.Request 1070 read_request)
 
@@ -297,7 +297,7 @@ handed_met = record {
   clock_hands_on_in = handing.clock_hands_on_in 1 begun 1005 safe safe refl;
   clock_hands_on_out = handing.clock_hands_on_out 1 begun 1005 safe safe refl;
   operator_hands_on = handing.operator_hands_on 1 begun 1005 true false safe refl;
-  refused_hands_on = handing.refused_hands_on begun 1005 NoPort (happening.Clock 1005) refl;
+  refused_hands_on = handing.refused_hands_on begun 1005 (Err NoPort) (happening.Clock 1005) refl;
   master_fresh_only = handing.master_fresh_only begun (happening.Response 1010 read) refl;
   device_fresh_only = handing.device_fresh_only before (happening.Request 1070 read_request) refl;
 }
@@ -321,10 +321,10 @@ pub record Copied : Type 0 where
   damaged_response : handed_out annex_d 1 responded end.Master Fresh (spdu 0xE0 0x3A 0x0E) safe (7 ∷ []) ≡ 0 ∷ []
   other_count_response : handed_out annex_d 1 responded end.Master Fresh (spdu 0xC0 0x49 0xCA) safe (7 ∷ []) ≡ 0 ∷ []
   other_port_response : handed_out annex_d 1 responded end.Master Fresh (0x2A ∷ 2 ∷ 0xE0 ∷ 0xEC ∷ 0x70 ∷ []) safe (7 ∷ []) ≡ 0 ∷ []
-  other_length : (handed_to annex_d 1 port end.Device Fresh [] safe 1).answer ≡ SpduLength
-  not_zero : (handed_to annex_d 1 port end.Device Fresh request (0xFF ∷ []) 1).answer ≡ Buffer
-  no_room : (handed_to annex_d 1 port end.Device Fresh request safe 0).answer ≡ Buffer
-  no_such_port : (handed_to annex_d 9 port end.Device Fresh request safe 1).answer ≡ NoPort
+  other_length : handed_to annex_d 1 port end.Device Fresh [] safe 1 ≡ Err SpduLength
+  not_zero : handed_to annex_d 1 port end.Device Fresh request (0xFF ∷ []) 1 ≡ Err Buffer
+  no_room : handed_to annex_d 1 port end.Device Fresh request safe 0 ≡ Err Buffer
+  no_such_port : handed_to annex_d 9 port end.Device Fresh request safe 1 ≡ Err NoPort
 
 pub copied_met : Copied
 unfolding addressed result_of history_by calls.placed calls.asked calls.asked_by_block calls.done port_at with_port new_bench new_port no_port accepted_port turn_of stored said step_of tallied_by silent signing.signature signing.octet signing.shift_in_all signing.shift_in elapsed_of table38.watchdog_row table38.is_old table38.is_admitted table38.checked table38.from8 table38.arrival_row table38.admitted table38.start_from table38.t4 table38.acted masters.watched masters.watched_by masters.quiet masters.arrived masters.received masters.clocked masters.operated table38.signalled masters.step_of table40.watchdog_row table40.is_admitted table40.checked table40.arrival_row table40.admitted table40.t22 table40.t25 table40.t28 table40.t29 table40.acted devices.watched devices.watched_by devices.quiet devices.arrived devices.received devices.clocked devices.step_of counted.frozen_of counted.with_sample counted.counted_of counted.totalled_of handed_to handed_out
@@ -454,40 +454,40 @@ two = replicate 2 0
 abbrev answers : List (Port × Call × Answer)
 answers =
     -- 8 before 9, 9 before 10, 7 and 11, 10 before 7
-    (new_port, ReceiveResponse 0 0 one one, NoPort)
-    ∷ (new_port, ReceiveRequest 9 0 one one, NoPort)
-    ∷ (new_port, Clock 9 0 one one, NoPort)
-    ∷ (new_port, WithoutReading 9 Trend, NoPort)
-    ∷ (new_port, ReceiveResponse 1 0 one one, NotRunning)
-    ∷ (new_port, ReceiveRequest 1 0 one one, NotRunning)
-    ∷ (new_port, Clock 1 0 one one, NotRunning)
-    ∷ (new_port, Operator 1 0 false false one, NotRunning)
-    ∷ (new_port, WithoutReading 1 (Compose one one one), NotRunning)
-    ∷ (new_port, WithoutReading 1 (BuildResponse one one), NotRunning)
-    ∷ (new_port, WithoutReading 1 (Split one), NotRunning)
-    ∷ (new_port, WithoutReading 1 (HandOn end.Master Fresh one one one), NotRunning)
-    ∷ (new_port, WithoutReading 1 Trend, NotRunning)
-    ∷ (new_port, WithoutReading 8 Bins, NotRunning)
-    ∷ (running, ReceiveResponse 1 0 five one, SpduLength)
-    ∷ (running, ReceiveRequest 1 0 six one, SpduLength)
-    ∷ (running, WithoutReading 1 (HandOn end.Master Fresh five one one), SpduLength)
-    ∷ (running, WithoutReading 1 (HandOn end.Device Fresh six one one), SpduLength)
+    (new_port, ReceiveResponse 0 0 one one, Err NoPort)
+    ∷ (new_port, ReceiveRequest 9 0 one one, Err NoPort)
+    ∷ (new_port, Clock 9 0 one one, Err NoPort)
+    ∷ (new_port, WithoutReading 9 Trend, Err NoPort)
+    ∷ (new_port, ReceiveResponse 1 0 one one, Err NotRunning)
+    ∷ (new_port, ReceiveRequest 1 0 one one, Err NotRunning)
+    ∷ (new_port, Clock 1 0 one one, Err NotRunning)
+    ∷ (new_port, Operator 1 0 false false one, Err NotRunning)
+    ∷ (new_port, WithoutReading 1 (Compose one one one), Err NotRunning)
+    ∷ (new_port, WithoutReading 1 (BuildResponse one one), Err NotRunning)
+    ∷ (new_port, WithoutReading 1 (Split one), Err NotRunning)
+    ∷ (new_port, WithoutReading 1 (HandOn end.Master Fresh one one one), Err NotRunning)
+    ∷ (new_port, WithoutReading 1 Trend, Err NotRunning)
+    ∷ (new_port, WithoutReading 8 Bins, Err NotRunning)
+    ∷ (running, ReceiveResponse 1 0 five one, Err SpduLength)
+    ∷ (running, ReceiveRequest 1 0 six one, Err SpduLength)
+    ∷ (running, WithoutReading 1 (HandOn end.Master Fresh five one one), Err SpduLength)
+    ∷ (running, WithoutReading 1 (HandOn end.Device Fresh six one one), Err SpduLength)
     -- each end has its own length and its own safe values; a clock call lends both
-    ∷ (running, ReceiveResponse 1 0 six safe, Buffer)
-    ∷ (running, ReceiveRequest 1 0 five two, Buffer)
-    ∷ (running, Clock 1 0 safe safe, Buffer)
-    ∷ (running, Clock 1 0 two two, Buffer)
-    ∷ (running, Operator 1 0 false false safe, Buffer)
-    ∷ (running, WithoutReading 1 (HandOn end.Master Safe one safe two), Buffer)
-    ∷ (running, WithoutReading 1 (HandOn end.Device Safe one two two), Buffer)
-    ∷ (running, WithoutReading 1 (HandOn end.Device Safe one safe []), Buffer)
-    ∷ (running, WithoutReading 1 (Compose two [] five), Buffer)
-    ∷ (running, WithoutReading 1 (Compose one one five), Buffer)
-    ∷ (running, WithoutReading 1 (Compose one [] six), Buffer)
-    ∷ (running, WithoutReading 1 (BuildResponse one six), Buffer)
-    ∷ (running, WithoutReading 1 (BuildResponse two five), Buffer)
-    ∷ (running, WithoutReading 1 (Split five), Buffer)
-    ∷ (running, WithoutReading 1 Trend, NoSamples)
+    ∷ (running, ReceiveResponse 1 0 six safe, Err Buffer)
+    ∷ (running, ReceiveRequest 1 0 five two, Err Buffer)
+    ∷ (running, Clock 1 0 safe safe, Err Buffer)
+    ∷ (running, Clock 1 0 two two, Err Buffer)
+    ∷ (running, Operator 1 0 false false safe, Err Buffer)
+    ∷ (running, WithoutReading 1 (HandOn end.Master Safe one safe two), Err Buffer)
+    ∷ (running, WithoutReading 1 (HandOn end.Device Safe one two two), Err Buffer)
+    ∷ (running, WithoutReading 1 (HandOn end.Device Safe one safe []), Err Buffer)
+    ∷ (running, WithoutReading 1 (Compose two [] five), Err Buffer)
+    ∷ (running, WithoutReading 1 (Compose one one five), Err Buffer)
+    ∷ (running, WithoutReading 1 (Compose one [] six), Err Buffer)
+    ∷ (running, WithoutReading 1 (BuildResponse one six), Err Buffer)
+    ∷ (running, WithoutReading 1 (BuildResponse two five), Err Buffer)
+    ∷ (running, WithoutReading 1 (Split five), Err Buffer)
+    ∷ (running, WithoutReading 1 Trend, Err NoSamples)
     -- and these are taken
     ∷ (running, ReceiveResponse 1 0 six two, Taken)
     ∷ (running, ReceiveRequest 1 0 five safe, Taken)
@@ -517,7 +517,7 @@ abbrev sevens : List ℕ
 sevens = replicate 5 7
 
 pub record ByMethod : Type 0 where
-  block_refused : (result_of signs_zero new_bench accepted).reply.answer ≡ Signature 23
+  block_refused : (result_of signs_zero new_bench accepted).reply.answer ≡ Err (Signature 23)
   no_such_port : history_by signs_zero (accepted ∷ []) ≡ new_bench
   response_safe : (result_of signs_zero (history (accepted ∷ [])) (ReceiveResponse 1 1010 response safe)).reply.master ≡ Safe
   request_safe : (result_of signs_zero (history earlier) (ReceiveRequest 1 1070 request safe)).reply.device ≡ Safe

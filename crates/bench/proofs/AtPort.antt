@@ -1,20 +1,19 @@
 -- The calls at a port of the bench: those to other ports make no difference to it. Assumes nothing.
 use Prim.Native.Nat.{ℕ}
 use mathlib.Core.Path.{◌≡◌, refl, sym, ap, ◌∙◌}
-use mathlib.Core.Bool.{Bool, true, false, cond}
+use mathlib.Core.Bool.{Bool, true, false, cond, false≢true}
 use mathlib.Core.List.{List, [], ◌∷◌}
 use lib.Dec.{eqb}
 use lib.ListN.{length}
 use borrow.Author.Tests.{eqb-true}
-use Rattle.answer.specs.declared.Answer.{Answer}
-use Rattle.answer.specs.declared.Answer.TheVariants.{Taken}
-use Rattle.answer.specs.Answers.{is_taken}
+use Rattle.answer.specs.Answers.{Answer, Taken, is_taken}
 use Rattle.answer.specs.Rules.{answer_by}
 use Rattle.ranges.specs.Fields.{outside}
 use Rattle.block.specs.declared.Params.{Params}
-use Rattle.block.specs.declared.Judged.{Judged}
+use Rattle.std.specs.Prelude.{Result, Ok, Err}
+use Rattle.answer.specs.declared.Refusal.{Refusal}
 use Rattle.block.specs.Table22.{params_of}
-use Rattle.block.specs.Rules.{judged}
+use Rattle.block.specs.Rules.{judged, params_in}
 use Rattle.block.proofs.Answered.{taken_params}
 use Rattle.spdu.specs.Signature.{by_bits}
 use Rattle.spdu.specs.Fields.{response_by, request_by}
@@ -22,11 +21,11 @@ use Rattle.scl.specs.declared.Happening.{Happening}
 use Rattle.scl.specs.declared.Happening.TheVariants as happening
 use Rattle.bench.specs.declared.Port.{Port}
 use Rattle.bench.specs.declared.Bench.{Bench}
-use Rattle.bench.specs.Ports.{accepted_port, new_bench, port_at, step_of}
+use Rattle.bench.specs.Ports.{silent, accepted_port, new_bench, port_at, step_of}
 use Rattle.bench.specs.Calls.{asked, asked_by_block, done, placed}
 use Rattle.bench.specs.History.{Call, SetParameters, ReceiveResponse, ReceiveRequest, Clock, Operator, WithoutReading, addressed, rules_of, answer_of, after, history, addressing, result_of, history_by}
 use Rattle.bench.proofs.Index.{placed_same, placed_other, placed-length}
-use Rattle.bench.proofs.Answers.{asked-answer, block-answer, answer_is, refused_same}
+use Rattle.bench.proofs.Answers.{answer_is, refused_same}
 
 -- ---- always eight ports
 after-length : (b : Bench) (c : Call) → length (after b c).ports ≡ length b.ports
@@ -53,18 +52,25 @@ taken_at p (Operator port at setSD_C ChFAck_C safe) = (step_of p (happening.Oper
 taken_at p (WithoutReading port act) = p
 
 asked-port : (p : Port) (at : ℕ) (a : Answer) (h : Happening) → is_taken (done p at (asked a h)).reply.answer ≡ true → (done p at (asked a h)).port ≡ (step_of p h).port
-unfolding done asked
-asked-port p at a h e = let t : is_taken a ≡ true = sym (ap is_taken (asked-answer p at a h)) ∙ e in simp t
+unfolding done asked silent
+asked-port p at (Ok t) h e = refl
+asked-port p at (Err r) h e = absurd (false≢true e)
 
-block-port : (p : Port) (at : ℕ) (j : Judged) → is_taken j.answer ≡ true → (done p at (asked_by_block j)).port ≡ accepted_port p j.params at
+pub block-port : (p : Port) (at : ℕ) (j : Result Params Refusal) → is_taken j ≡ true → (done p at (asked_by_block j)).port ≡ accepted_port p (params_in j) at
 unfolding done asked_by_block
-block-port p at j e = simp e
+block-port p at (Ok q) e = refl
+block-port p at (Err r) e = absurd (false≢true e)
+
+pub block-taken : (p : Port) (at : ℕ) (j : Result Params Refusal) → is_taken (done p at (asked_by_block j)).reply.answer ≡ is_taken j
+unfolding done asked_by_block silent
+block-taken p at (Ok q) = refl
+block-taken p at (Err r) = refl
 
 module _ (b : Bench) (all : length b.ports ≡ 8) where
-  set_at : (port at : ℕ) (j : Judged) → outside 1 8 port ≡ false → is_taken j.answer ≡ true → port_at (placed b port (done (port_at b port) at (asked_by_block j))).bench port ≡ accepted_port (port_at b port) j.params at
+  set_at : (port at : ℕ) (j : Result Params Refusal) → outside 1 8 port ≡ false → is_taken j ≡ true → port_at (placed b port (done (port_at b port) at (asked_by_block j))).bench port ≡ accepted_port (port_at b port) (params_in j) at
   set_at port at j k e =
       let p = port_at b port in
-      placed_same b all port k (done p at (asked_by_block j)) (ap is_taken (block-answer p at j) ∙ e) ∙ block-port p at j e
+      placed_same b all port k (done p at (asked_by_block j)) (block-taken p at j ∙ e) ∙ block-port p at j e
 
   happened_at : (port at : ℕ) (a : Answer) (h : Happening) → outside 1 8 port ≡ false → is_taken (done (port_at b port) at (asked a h)).reply.answer ≡ true → port_at (placed b port (done (port_at b port) at (asked a h))).bench port ≡ (step_of (port_at b port) h).port
   happened_at port at a h k e = placed_same b all port k (done (port_at b port) at (asked a h)) e ∙ asked-port (port_at b port) at a h e
@@ -73,7 +79,7 @@ module _ (b : Bench) (all : length b.ports ≡ 8) where
   unfolding result_of addressed taken_at placed
   taken_at_lem (SetParameters port at octets) k e =
       let j = judged octets port in
-      let t : is_taken j.answer ≡ true = sym (ap is_taken (block-answer (port_at b port) at j)) ∙ e in
+      let t : is_taken j ≡ true = sym (block-taken (port_at b port) at j) ∙ e in
       set_at port at j k t ∙ ap (λ (q : Params). accepted_port (port_at b port) q at) (taken_params octets port t)
   taken_at_lem (ReceiveResponse port at spdu safe) k e = happened_at port at _ _ k e
   taken_at_lem (ReceiveRequest port at spdu safe) k e = happened_at port at _ _ k e

@@ -6,9 +6,9 @@ use mathlib.Core.List.{List, [], ◌++◌}
 use lib.Dec.{eqb, leb}
 use lib.ListN.{length, drop}
 use borrow.Author.Tests.{not-false, le-leb, eq-eqb}
-use Rattle.answer.specs.declared.Answer.{Answer}
-use Rattle.answer.specs.declared.Answer.TheVariants.{Taken}
-use Rattle.answer.specs.Answers.{is_taken}
+use Rattle.std.specs.Prelude.{Ok}
+use Rattle.answer.specs.Answers.{Answer, Taken, is_taken, with_value}
+use Rattle.answer.proofs.Values.{answer_taken}
 use Rattle.answer.specs.Rules.{Kept, answer_by}
 use Rattle.answer.proofs.Exact.{taken_exactly}
 use Rattle.ranges.specs.Fields.{outside}
@@ -44,7 +44,7 @@ use Rattle.bench.proofs.HandedOn as handing
 
 -- a handing on that is not refused, and what it writes
 pub record Hands (port : ℕ) (p : Port) (e : End) (mark : Mark) (spdu safe out part : List ℕ) : Type 0 where
-  pub told : handed_to annex_d port p e mark spdu safe (length out) ≡ record { answer = Taken; octets = length part }
+  pub told : handed_to annex_d port p e mark spdu safe (length out) ≡ Ok (length part)
   pub written : handed_out annex_d port p e mark spdu safe out ≡ part ++ drop (length part) out
 
 -- ---- the mark that a port's own call gave is allowed
@@ -76,12 +76,14 @@ only_released e p Nothing spdu h = no (sym (ap is_fresh h))
 
 -- and where it does not release, nothing but zeros
 pub zeros-only : (port : ℕ) (e : End) (p : Port) (mark : Mark) (spdu safe : List ℕ) (room : ℕ) → releases_at e p ≡ false
-    → is_taken (handed_to annex_d port p e mark spdu safe room).answer ≡ true → is_all_zero (part_at annex_d e p mark spdu safe) ≡ true
+    → is_taken (handed_to annex_d port p e mark spdu safe room) ≡ true → is_all_zero (part_at annex_d e p mark spdu safe) ≡ true
 unfolding handed_to
 zeros-only port e p mark spdu safe room silent taken = go mark
   where
     kept : Kept (hand_rules annex_d port p e mark spdu safe room)
-    kept = (taken_exactly (hand_rules annex_d port p e mark spdu safe room) tt tt).0 taken
+    kept =
+        let rules = hand_rules annex_d port p e mark spdu safe room in
+        (taken_exactly rules).0 (sym (answer_taken (answer_by Taken rules) (length (part_at annex_d e p mark spdu safe))) ∙ taken)
 
     holds : safe_holds_at e p.setting.params safe ≡ true
     holds = and_left (safe_holds_at e p.setting.params safe) (leb (length (part_at annex_d e p mark spdu safe)) room) (not-false (safe_holds_at e p.setting.params safe && leb (length (part_at annex_d e p mark spdu safe)) room) (kept.each 3))
@@ -128,7 +130,7 @@ module _ (port : ℕ) (known : outside 1 8 port ≡ false) (p : Port) (runs : p.
         let lengths = lengths_of mark (eqb (length spdu) (length_at e p.setting.params)) (λ f. (fresh f).1) in
         let taken : answer_by Taken (hand_rules annex_d port p e mark spdu safe (length out)) ≡ Taken = simp (known, runs, lengths, safes, room) in
         record {
-          told = ap (λ (a : Answer). record { answer = a; octets = cond (is_taken a) (length (part_at annex_d e p mark spdu safe)) 0 }) taken ∙ ap (λ (l : List ℕ). record { answer = Taken; octets = length l }) same;
+          told = ap (λ (a : Answer). with_value a (length (part_at annex_d e p mark spdu safe))) taken ∙ ap (λ (l : List ℕ). Ok (length l)) same;
           written = ap (λ (a : Answer). cond (is_taken a) (part_at annex_d e p mark spdu safe ++ drop (length (part_at annex_d e p mark spdu safe)) out) out) taken ∙ ap (λ (l : List ℕ). l ++ drop (length l) out) same;
         }
 
@@ -170,7 +172,7 @@ module _ (port : ℕ) (p : Port) (at : ℕ) where
       let f = response_by by_bits p.setting.params spdu in
       let h = happening.Response at f in
       let rules = calls.response_rules port p.setting (length spdu) safe in
-      let kept : Kept rules = (taken_exactly rules tt tt).0 t in
+      let kept : Kept rules = (taken_exactly rules).0 t in
       let handed = handing.response_hands_on port p at spdu safe t in
       rw (handing.asked_taken p at (answer_by Taken rules) h t)
       (λ fits. hands port (kept.each 0) (step_of p h).port (not-false p.setting.running (kept.each 1)) end.Master (response_admitted p at f)
@@ -188,7 +190,7 @@ module _ (port : ℕ) (p : Port) (at : ℕ) where
       let q = request_by by_bits p.setting.params spdu in
       let h = happening.Request at q in
       let rules = calls.request_rules port p.setting (length spdu) safe in
-      let kept : Kept rules = (taken_exactly rules tt tt).0 t in
+      let kept : Kept rules = (taken_exactly rules).0 t in
       let handed = handing.request_hands_on port p at spdu safe t in
       rw (handing.asked_taken p at (answer_by Taken rules) h t)
       (λ fits. hands port (kept.each 0) (step_of p h).port (not-false p.setting.running (kept.each 1)) end.Device (request_admitted p at q)
@@ -206,7 +208,7 @@ module _ (port : ℕ) (p : Port) (at : ℕ) where
     clock_handed_in =
         let rules = calls.clock_rules port p.setting safe_in safe_out in
         let h = happening.Clock at in
-        let kept : Kept rules = (taken_exactly rules tt tt).0 t in
+        let kept : Kept rules = (taken_exactly rules).0 t in
         let handed = handing.clock_hands_on_in port p at safe_in safe_out t in
         rw (handing.asked_taken p at (answer_by Taken rules) h t)
         (λ fits. hands port (kept.each 0) (step_of p h).port (not-false p.setting.running (kept.each 1)) end.Master false refl [] safe_in out _
@@ -221,7 +223,7 @@ module _ (port : ℕ) (p : Port) (at : ℕ) where
     clock_handed_out =
         let rules = calls.clock_rules port p.setting safe_in safe_out in
         let h = happening.Clock at in
-        let kept : Kept rules = (taken_exactly rules tt tt).0 t in
+        let kept : Kept rules = (taken_exactly rules).0 t in
         let handed = handing.clock_hands_on_out port p at safe_in safe_out t in
         rw (handing.asked_taken p at (answer_by Taken rules) h t)
         (λ fits. hands port (kept.each 0) (step_of p h).port (not-false p.setting.running (kept.each 1)) end.Device false refl [] safe_out out _
@@ -237,7 +239,7 @@ module _ (port : ℕ) (p : Port) (at : ℕ) where
   operator-handed setSD_C ChFAck_C safe out t =
       let rules = calls.operator_rules port p.setting safe in
       let h = happening.Operator at setSD_C ChFAck_C in
-      let kept : Kept rules = (taken_exactly rules tt tt).0 t in
+      let kept : Kept rules = (taken_exactly rules).0 t in
       let handed = handing.operator_hands_on port p at setSD_C ChFAck_C safe t in
       rw (handing.asked_taken p at (answer_by Taken rules) h t)
       (λ fits. hands port (kept.each 0) (step_of p h).port (not-false p.setting.running (kept.each 1)) end.Master false refl [] safe out _

@@ -1,15 +1,14 @@
 -- What a call that is not refused hands on, and what a refused one does. Assumes nothing.
 use Prim.Native.Nat.{ℕ}
 use mathlib.Core.Path.{◌≡◌, refl, ap, ap₂, ◌∙◌}
-use mathlib.Core.Bool.{Bool, true, false, cond, ◌&&◌}
+use mathlib.Core.Bool.{Bool, true, false, cond, ◌&&◌, true≢false, false≢true}
+use Rattle.std.specs.Prelude.{Ok, Err}
 use mathlib.Core.List.{List, [], ◌∷◌}
 use lib.Dec.{eqb}
 use lib.ListN.{length, replicate}
 use borrow.Author.Tests.{eqb-true, not-false}
 use Rattle.std.specs.Prelude.{Option}
-use Rattle.answer.specs.declared.Answer.{Answer}
-use Rattle.answer.specs.declared.Answer.TheVariants.{Taken}
-use Rattle.answer.specs.Answers.{is_taken}
+use Rattle.answer.specs.Answers.{Answer, Taken, is_taken}
 use Rattle.answer.specs.Rules.{Kept, answer_by}
 use Rattle.scl.specs.declared.Request.{Request}
 use Rattle.scl.specs.declared.Response.{Response}
@@ -94,7 +93,8 @@ hands {mark} row releases mode n spdu safe e s =
 
 pub asked_taken : (p : Port) (at : ℕ) (a : Answer) (h : Happening) → is_taken a ≡ true → done p at (asked a h) ≡ step_of p h
 unfolding done asked
-asked_taken p at a h t = simp t
+asked_taken p at (Ok t) h e = refl
+asked_taken p at (Err r) h e = absurd (false≢true e)
 
 module _ (port : ℕ) (p : Port) (at : ℕ) where
   abbrev handed : Mark → List ℕ → List ℕ → List ℕ
@@ -109,7 +109,7 @@ module _ (port : ℕ) (p : Port) (at : ℕ) where
   response_hands_on spdu safe t =
       let f = response_by by_bits p.setting.params spdu in
       let rules = response_rules port p.setting (length spdu) safe in
-      let kept : Kept rules = (taken_exactly rules tt tt).0 t in
+      let kept : Kept rules = (taken_exactly rules).0 t in
       rw (asked_taken p at (answer_by Taken rules) (happening.Response at f) t)
       (hands (response_admitted p at f) (step_of p (happening.Response at f)).reply.master_releases p.setting.params.FSP_ProtMode p.setting.params.SPDUInLength spdu safe (response_mark p.live.master p.setting.params.FSP_WatchdogTime at f) (not-false (safe_in_hold p.setting.params safe) (kept.each 3)))
 
@@ -122,7 +122,7 @@ module _ (port : ℕ) (p : Port) (at : ℕ) where
   request_hands_on spdu safe t =
       let q = request_by by_bits p.setting.params spdu in
       let rules = request_rules port p.setting (length spdu) safe in
-      let kept : Kept rules = (taken_exactly rules tt tt).0 t in
+      let kept : Kept rules = (taken_exactly rules).0 t in
       rw (asked_taken p at (answer_by Taken rules) (happening.Request at q) t)
       (hands (request_admitted p at q) (step_of p (happening.Request at q)).reply.device_releases p.setting.params.FSP_ProtMode p.setting.params.SPDUOutLength spdu safe (request_mark p.live.device p.setting.params.FSP_WatchdogTime at q) (not-false (safe_out_hold p.setting.params safe) (kept.each 3)))
 
@@ -130,7 +130,7 @@ module _ (port : ℕ) (p : Port) (at : ℕ) where
   module _ (safe_in safe_out : List ℕ) (t : is_taken (answer_by Taken (clock_rules port p.setting safe_in safe_out)) ≡ true) where
     pub both_hold : (safe_in_hold p.setting.params safe_in && safe_out_hold p.setting.params safe_out) ≡ true
     both_hold =
-        let kept : Kept (clock_rules port p.setting safe_in safe_out) = (taken_exactly (clock_rules port p.setting safe_in safe_out) tt tt).0 t in
+        let kept : Kept (clock_rules port p.setting safe_in safe_out) = (taken_exactly (clock_rules port p.setting safe_in safe_out)).0 t in
         not-false (safe_in_hold p.setting.params safe_in && safe_out_hold p.setting.params safe_out) (kept.each 2)
 
     pub clock_hands_on_in : let r = (clock_at port p at safe_in safe_out).reply in handed r.master [] safe_in ≡ octets_handed_on r.master_releases false [] (octets_in p)
@@ -152,14 +152,15 @@ module _ (port : ℕ) (p : Port) (at : ℕ) where
   unfolding step_of stored said turn_of masters.step_of masters.operated masters.quiet
   operator_hands_on setSD_C ChFAck_C safe t =
       let rules = operator_rules port p.setting safe in
-      let kept : Kept rules = (taken_exactly rules tt tt).0 t in
+      let kept : Kept rules = (taken_exactly rules).0 t in
       rw (asked_taken p at (answer_by Taken rules) (happening.Operator at setSD_C ChFAck_C) t)
       (hands false (step_of p (happening.Operator at setSD_C ChFAck_C)).reply.master_releases p.setting.params.FSP_ProtMode p.setting.params.SPDUInLength [] safe refl (not-false (safe_in_hold p.setting.params safe) (kept.each 2)))
 
 -- ---- a refused call hands on nothing, and says that nothing is released
 pub refused_hands_on : (p : Port) (at : ℕ) (a : Answer) (h : Happening) → is_taken a ≡ false → (done p at (asked a h)).reply ≡ silent a
 unfolding done asked
-refused_hands_on p at a h t = simp t
+refused_hands_on p at (Ok t) h e = absurd (true≢false e)
+refused_hands_on p at (Err r) h e = refl
 
 -- ---- fresh octets are handed on exactly in the rows that release
 

@@ -44,7 +44,7 @@ use Rattle.bench.specs.declared.Port.{Port}
 use Rattle.bench.specs.Ports.{new_port, port_at}
 use Rattle.bench.specs.Calls.{placed}
 use Rattle.bench.specs.History.{Call, SetParameters, ReceiveResponse, ReceiveRequest, Clock, Operator, WithoutReading, addressed, answer_of, history, Since, never, since, goes_on, extended, since_block, Matches, Arising, block_in, OctetsIn, no_call, one_more, result_of}
-use Rattle.bench.proofs.Answers.{block-answer}
+use Rattle.bench.proofs.AtPort.{block-taken}
 use Rattle.bench.proofs.History.{matches}
 
 -- ---- what is read of an SPDU
@@ -176,13 +176,13 @@ unfolding Sounds goes_on
 goes_sound q never h r z = refl
 goes_sound q (since at params past) h r z = record { accepted_block = z.accepted_block; all_read = more (r params) z.all_read }
 
-block-sound : (octets : List ℕ) (port : ℕ) → ((i : ℕ) → get_or octets i 0 < 256) → is_taken (judged octets port).answer ≡ true → Sound port (params_of octets) []
+block-sound : (octets : List ℕ) (port : ℕ) → ((i : ℕ) → get_or octets i 0 < 256) → is_taken (judged octets port) ≡ true → Sound port (params_of octets) []
 block-sound octets port o t = record { accepted_block = rw (taken_params octets port t) at (accepted octets port o t); all_read = none }
 
 extended-sound : (q : ℕ) (past : List Call) (c : Call) (s : Since) → addressed c ≡ q → is_taken (answer_of (history past) c) ≡ true → ((i : ℕ) → get_or (block_in c) i 0 < 256) → Sounds q s → Sounds q (extended s c)
 unfolding extended block_in Sounds addressed result_of placed Read
 extended-sound q past (SetParameters port at octets) s e t o z =
-    rw (sym e) (block-sound octets port o (sym (ap is_taken (block-answer (port_at (history past) port) at (judged octets port))) ∙ t))
+    rw (sym e) (block-sound octets port o (sym (block-taken (port_at (history past) port) at (judged octets port)) ∙ t))
 extended-sound q past (ReceiveResponse port at spdu safe) s e t o z = goes_sound q s (λ p. happening.Response at (response_by by_bits p spdu)) (λ p. response-read p spdu) z
 extended-sound q past (ReceiveRequest port at spdu safe) s e t o z = goes_sound q s (λ p. happening.Request at (request_by by_bits p spdu)) (λ p. request-read p spdu) z
 extended-sound q past (Clock port at safe_in safe_out) s e t o z = goes_sound q s (λ p. happening.Clock at) (λ p. refl) z

@@ -9,9 +9,7 @@ use mathlib.Core.List.{List, ◌++◌}
 use lib.Dec.{eqb}
 use lib.ListN.{length, take, replicate, length-replicate}
 use lib.Seq.{take_at}
-use Rattle.answer.specs.declared.Answer.{Answer}
-use Rattle.answer.specs.declared.Answer.TheVariants.{Taken}
-use Rattle.answer.specs.Answers.{is_taken}
+use Rattle.answer.specs.Answers.{Answer, Taken, is_taken}
 use Rattle.answer.specs.Rules.{answer_by}
 use Rattle.ranges.specs.Fields.{outside, safety_octets}
 use Rattle.block.specs.declared.Params.{Params}

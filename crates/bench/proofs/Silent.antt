@@ -9,7 +9,9 @@ use Rattle.bench.specs.declared.Port.{Port}
 use Rattle.bench.specs.declared.Bench.{Bench}
 use Rattle.bench.specs.declared.Reply.{Reply}
 use Rattle.bench.specs.declared.Act.{Act}
-use Rattle.bench.specs.declared.Act.TheVariants.{Refused, Accepted, Happens}
+use Rattle.bench.specs.declared.Act.TheVariants.{Accepted, Happens}
+use Rattle.std.specs.Prelude.{Result, Ok, Err}
+use Rattle.answer.specs.declared.Refusal.{Refusal}
 use Rattle.bench.specs.Methods.{annex_d}
 use Rattle.bench.specs.Ports.{port_at, step_of, said, silent}
 use Rattle.bench.specs.Calls as calls
@@ -30,11 +32,11 @@ Says P b (Clock port at safe_in safe_out) = P (calls.clock b port at safe_in saf
 Says P b (Operator port at setSD_C ChFAck_C safe) = P (calls.operator b port at setSD_C ChFAck_C safe).reply
 Says P b (WithoutReading port act) = true ≡ true
 
-refused-act : (p : Port) (at : ℕ) (a : Act) → is_taken (calls.done p at a).reply.answer ≡ false → NothingSaid (calls.done p at a).reply
+refused-act : (p : Port) (at : ℕ) (a : Result Act Refusal) → is_taken (calls.done p at a).reply.answer ≡ false → NothingSaid (calls.done p at a).reply
 unfolding calls.done step_of said silent
-refused-act p at (Refused x) e = record { master = refl; device = refl; master_releases = refl; device_releases = refl }
-refused-act p at (Accepted params) e = no e
-refused-act p at (Happens h) e = no e
+refused-act p at (Err r) e = record { master = refl; device = refl; master_releases = refl; device_releases = refl }
+refused-act p at (Ok (Accepted params)) e = no e
+refused-act p at (Ok (Happens h)) e = no e
 
 pub refused_says : (b : Bench) (c : Call) → is_taken (answer_of b c) ≡ false → Says NothingSaid b c
 unfolding Says result_of calls.placed

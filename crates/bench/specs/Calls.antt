@@ -1,12 +1,11 @@
 -- The calls with a clock reading: their rules in 01's order (R27), what they ask of a port, and what that makes of it. Assumes nothing.
-use Rattle.std.specs.Prelude.{ℕ, Bool, cond, not, ◌&&◌, List, [], ◌∷◌, ◌++◌, eqb, length, Option, Some, None}
-use Rattle.answer.specs.declared.Answer.{Answer}
-use Rattle.answer.specs.declared.Answer.TheVariants.{Taken, Buffer, NoPort, NotRunning, SpduLength}
-use Rattle.answer.specs.Answers.{is_taken}
+use Rattle.std.specs.Prelude.{ℕ, Bool, cond, not, ◌&&◌, List, [], ◌∷◌, ◌++◌, eqb, length, Option, Some, None, Result, Ok, Err}
+use Rattle.answer.specs.declared.Refusal.{Refusal}
+use Rattle.answer.specs.declared.Refusal.TheVariants.{Buffer, NoPort, NotRunning, SpduLength}
+use Rattle.answer.specs.Answers.{Answer, Taken, is_taken, with_value}
 use Rattle.answer.specs.Rules.{Rule, rule, answer_by}
 use Rattle.ranges.specs.Fields.{outside}
 use Rattle.block.specs.declared.Params.{Params}
-use Rattle.block.specs.declared.Judged.{Judged}
 use Rattle.block.specs.Rules.{judged_by}
 use Rattle.spdu.specs.Fields.{response_by, request_by, response_fields, request_fields}
 use Rattle.spdu.specs.Image.{safe_values_hold}
@@ -18,7 +17,7 @@ use Rattle.bench.specs.declared.Bench.{Bench}
 use Rattle.bench.specs.declared.End.{End}
 use Rattle.bench.specs.declared.End.TheVariants as end
 use Rattle.bench.specs.declared.Act.{Act}
-use Rattle.bench.specs.declared.Act.TheVariants.{Refused, Accepted, Happens}
+use Rattle.bench.specs.declared.Act.TheVariants.{Accepted, Happens}
 use Rattle.bench.specs.declared.BenchAfter.{BenchAfter}
 use Rattle.bench.specs.Methods.{Method}
 use Rattle.bench.specs.Ports.{PortAfter, accepted_port, no_port, port_at, with_port, step_of, silent}
@@ -66,25 +65,26 @@ operator_rules port s safe = other_rules (outside 1 8 port) s (safe_in_hold s.pa
 
 -- What a call asks of its port, by a method of signing where a block or an SPDU is read.
 
-unfoldable pub asked : Answer → Happening → Act
-asked a h = cond (is_taken a) (Happens h) (Refused a)
+unfoldable pub asked : Answer → Happening → Result Act Refusal
+asked a h = with_value a (Happens h)
 
-unfoldable pub asked_by_block : Judged → Act
-asked_by_block j = cond (is_taken j.answer) (Accepted j.params) (Refused j.answer)
+unfoldable pub asked_by_block : Result Params Refusal → Result Act Refusal
+asked_by_block (Ok p) = Ok (Accepted p)
+asked_by_block (Err r) = Err r
 
-abbrev pub parameters_act : (List ℕ → ℕ) → ℕ → List ℕ → Act
+abbrev pub parameters_act : (List ℕ → ℕ) → ℕ → List ℕ → Result Act Refusal
 parameters_act sign port octets = asked_by_block (judged_by sign octets port)
 
-abbrev pub response_act : (ℕ → List ℕ → ℕ) → Bool → Setting → ℕ → List ℕ → Bool → Act
+abbrev pub response_act : (ℕ → List ℕ → ℕ) → Bool → Setting → ℕ → List ℕ → Bool → Result Act Refusal
 response_act sign o s at spdu holds =
     asked (answer_by Taken (spdu_rules o s s.params.SPDUInLength (length spdu) holds)) (happening.Response at (response_by sign s.params spdu))
 
-abbrev pub request_act : (ℕ → List ℕ → ℕ) → Bool → Setting → ℕ → List ℕ → Bool → Act
+abbrev pub request_act : (ℕ → List ℕ → ℕ) → Bool → Setting → ℕ → List ℕ → Bool → Result Act Refusal
 request_act sign o s at spdu holds =
     asked (answer_by Taken (spdu_rules o s s.params.SPDUOutLength (length spdu) holds)) (happening.Request at (request_by sign s.params spdu))
 
 -- the two, by the end
-abbrev pub spdu_act : (ℕ → List ℕ → ℕ) → End → Bool → Setting → ℕ → List ℕ → Bool → Act
+abbrev pub spdu_act : (ℕ → List ℕ → ℕ) → End → Bool → Setting → ℕ → List ℕ → Bool → Result Act Refusal
 spdu_act sign end.Master o s at spdu holds = response_act sign o s at spdu holds
 spdu_act sign end.Device o s at spdu holds = request_act sign o s at spdu holds
 
@@ -93,17 +93,17 @@ abbrev pub received : (ℕ → List ℕ → ℕ) → End → Setting → ℕ →
 received sign end.Master s at spdu = happening.Response at (response_fields sign s.params spdu)
 received sign end.Device s at spdu = happening.Request at (request_fields sign s.params spdu)
 
-abbrev pub clock_act : Bool → Setting → ℕ → Bool → Act
+abbrev pub clock_act : Bool → Setting → ℕ → Bool → Result Act Refusal
 clock_act o s at holds = asked (answer_by Taken (other_rules o s holds)) (happening.Clock at)
 
-abbrev pub operator_act : Bool → Setting → ℕ → Bool → Bool → Bool → Act
+abbrev pub operator_act : Bool → Setting → ℕ → Bool → Bool → Bool → Result Act Refusal
 operator_act o s at setSD_C ChFAck_C holds = asked (answer_by Taken (other_rules o s holds)) (happening.Operator at setSD_C ChFAck_C)
 
 -- At a port, with the reading of the call, by a method of signing. "A refusal changes no state".
-unfoldable pub done : Port → ℕ → Act → PortAfter
-done p at (Refused a) = record { port = p; reply = silent a }
-done p at (Accepted params) = record { port = accepted_port p params at; reply = silent Taken }
-done p at (Happens h) = step_of p h
+unfoldable pub done : Port → ℕ → Result Act Refusal → PortAfter
+done p at (Err r) = record { port = p; reply = silent (Err r) }
+done p at (Ok (Accepted params)) = record { port = accepted_port p params at; reply = silent Taken }
+done p at (Ok (Happens h)) = step_of p h
 
 abbrev pub parameters_at : Method → ℕ → Port → ℕ → List ℕ → PortAfter
 parameters_at m port p at octets = done p at (parameters_act m.block port octets)

@@ -1,9 +1,9 @@
 -- What a call handed on, at one end of a port (R26): by the mark of the call's reply, from the bench that the call returned and what was lent to the
 -- call. None of these is believed (docs/DECISIONS.md). An SPDU is read by a method of signing. Assumes nothing.
-use Rattle.std.specs.Prelude.{ℕ, ◌≡◌, true, false, Bool, cond, not, ◌&&◌, List, [], ◌∷◌, ◌++◌, eqb, leb, length, drop}
-use Rattle.answer.specs.declared.Answer.{Answer}
-use Rattle.answer.specs.declared.Answer.TheVariants.{Taken, Buffer, SpduLength}
-use Rattle.answer.specs.Answers.{is_taken}
+use Rattle.std.specs.Prelude.{ℕ, ◌≡◌, Bool, Result, Err, cond, not, ◌&&◌, List, [], ◌∷◌, ◌++◌, eqb, leb, length, drop}
+use Rattle.answer.specs.declared.Refusal.{Refusal}
+use Rattle.answer.specs.declared.Refusal.TheVariants.{Buffer, SpduLength}
+use Rattle.answer.specs.Answers.{Taken, is_taken, with_value}
 use Rattle.answer.specs.Rules.{Rule, rule, answer_by}
 use Rattle.block.specs.declared.Params.{Params}
 use Rattle.scl.specs.Happenings.{is_fresh}
@@ -14,7 +14,6 @@ use Rattle.spdu.specs.Image as image
 use Rattle.bench.specs.declared.Port.{Port}
 use Rattle.bench.specs.declared.End.{End}
 use Rattle.bench.specs.declared.End.TheVariants as end
-use Rattle.bench.specs.declared.Handed.{Handed}
 use Rattle.bench.specs.Methods.{Method}
 use Rattle.bench.specs.Calls.{call_rules}
 
@@ -64,15 +63,15 @@ lent_rules port p e mark n holds =
     call_rules port p.setting
     ++ (rule (is_fresh mark && not (eqb n (length_at e p.setting.params))) SpduLength ∷ rule (not holds) Buffer ∷ [])
 
--- the part, or the answer of a refusal
+-- the part, or why it is refused
 abbrev pub Parted : Method → ℕ → Port → End → Mark → List ℕ → List ℕ → List ℕ → Type 0
 Parted m port p e mark spdu safe part =
-    (is_taken (answer_by Taken (lent_rules port p e mark (length spdu) (safe_holds_at e p.setting.params safe))) ≡ true)
+    (answer_by Taken (lent_rules port p e mark (length spdu) (safe_holds_at e p.setting.params safe)) ≡ Taken)
     × (part ≡ part_at m e p mark spdu safe)
 
-abbrev pub Unparted : ℕ → Port → End → Mark → List ℕ → List ℕ → Answer → Type 0
-Unparted port p e mark spdu safe a =
-    (a ≡ answer_by Taken (lent_rules port p e mark (length spdu) (safe_holds_at e p.setting.params safe))) × (is_taken a ≡ false)
+abbrev pub Unparted : ℕ → Port → End → Mark → List ℕ → List ℕ → Refusal → Type 0
+Unparted port p e mark spdu safe r =
+    answer_by Taken (lent_rules port p e mark (length spdu) (safe_holds_at e p.setting.params safe)) ≡ Err r
 
 -- the part; empty in a refusal
 unfoldable pub handed_on : Method → ℕ → Port → End → Mark → List ℕ → List ℕ → List ℕ
@@ -84,10 +83,9 @@ abbrev pub hand_rules : Method → ℕ → Port → End → Mark → List ℕ �
 hand_rules m port p e mark spdu safe room =
     lent_rules port p e mark (length spdu) (safe_holds_at e p.setting.params safe && leb (length (part_at m e p mark spdu safe)) room)
 
-unfoldable pub handed_to : Method → ℕ → Port → End → Mark → List ℕ → List ℕ → ℕ → Handed
+unfoldable pub handed_to : Method → ℕ → Port → End → Mark → List ℕ → List ℕ → ℕ → Result ℕ Refusal
 handed_to m port p e mark spdu safe room =
-    let a = answer_by Taken (hand_rules m port p e mark spdu safe room) in
-    record { answer = a; octets = cond (is_taken a) (length (part_at m e p mark spdu safe)) 0 }
+    with_value (answer_by Taken (hand_rules m port p e mark spdu safe room)) (length (part_at m e p mark spdu safe))
 
 -- what stands in the buffer later
 unfoldable pub handed_out : Method → ℕ → Port → End → Mark → List ℕ → List ℕ → List ℕ → List ℕ

@@ -1,9 +1,8 @@
 -- Every list of calls from the new bench, good, bad or malformed, and what 01 says of it: the words in which the theorems of proofs/ are stated.
 -- In every list here the latest stands first. Assumes nothing.
 use Rattle.std.specs.Prelude.{ℕ, ◌≤◌, ◌<◌, ◌≡◌, Bool, true, cond, not, ◌&&◌, List, [], ◌∷◌, ◌++◌, eqb, length, get_or, replicate}
-use Rattle.answer.specs.declared.Answer.{Answer}
-use Rattle.answer.specs.declared.Answer.TheVariants.{Buffer}
-use Rattle.answer.specs.Answers.{is_taken}
+use Rattle.answer.specs.declared.Refusal.TheVariants.{Buffer}
+use Rattle.answer.specs.Answers.{Answer, is_taken, without_value}
 use Rattle.answer.specs.Rules.{Rule, rule}
 use Rattle.block.specs.declared.Params.{Params}
 use Rattle.block.specs.Accepted.{Accepted}
@@ -100,11 +99,11 @@ unfoldable pub answer_without_reading : Method → ℕ → Port → NoReading �
 answer_without_reading m port p (Compose process other octets) = compose_answer port p process other octets
 answer_without_reading m port p (BuildResponse process out) = build_answer port p process out
 answer_without_reading m port p (Split octets) = split_answer port p octets
-answer_without_reading m port p (HandOn end mark spdu safe out) = (handed_to m port p end mark spdu safe (length out)).answer
-answer_without_reading m port p Trend = (trend_of port p).answer
-answer_without_reading m port p Bins = (bins_of port p).answer
-answer_without_reading m port p ShowMaster = (master_of port p).answer
-answer_without_reading m port p ShowDevice = (device_of port p).answer
+answer_without_reading m port p (HandOn end mark spdu safe out) = without_value (handed_to m port p end mark spdu safe (length out))
+answer_without_reading m port p Trend = without_value (trend_of port p)
+answer_without_reading m port p Bins = without_value (bins_of port p)
+answer_without_reading m port p ShowMaster = without_value (master_of port p)
+answer_without_reading m port p ShowDevice = without_value (device_of port p)
 
 -- what stands later in the buffer that a call writes, by a method of signing; nothing where it writes none
 unfoldable pub written_without_reading : Method → ℕ → Port → NoReading → List ℕ

@@ -1,9 +1,7 @@
 -- The calls on outgoing and incoming octets. They have no reading, look at no watchdog and change no state
 -- (R11). What signs goes by a method. Assumes nothing.
 use Rattle.std.specs.Prelude.{ℕ, Bool, cond, List, [], length}
-use Rattle.answer.specs.declared.Answer.{Answer}
-use Rattle.answer.specs.declared.Answer.TheVariants.{Taken}
-use Rattle.answer.specs.Answers.{is_taken}
+use Rattle.answer.specs.Answers.{Answer, Taken, is_taken}
 use Rattle.answer.specs.Rules.{answer_by}
 use Rattle.spdu.specs.Built.{built_as, buffers_hold, response_built}
 use Rattle.spdu.specs.Image as image

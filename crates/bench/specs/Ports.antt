@@ -1,8 +1,7 @@
 -- A port, a bench of eight, and one happening at a port. Assumes nothing.
 use Rattle.std.specs.Prelude.{ℕ, ◌-◌, true, false, cond, [], get_or, set, replicate, Option, Some, None, unwrap_or, option_map}
 use Rattle.std.specs.Option.{option_and}
-use Rattle.answer.specs.declared.Answer.{Answer}
-use Rattle.answer.specs.declared.Answer.TheVariants.{Taken}
+use Rattle.answer.specs.Answers.{Answer, Taken}
 use Rattle.ranges.specs.Fields.{outside}
 use Rattle.block.specs.declared.Params.{Params}
 use Rattle.block.specs.Rules.{no_params}

@@ -1,6 +1,6 @@
 // What a call asks of its port: the rules that it is held to, in 01's order, and what it brings where it keeps them.
 ghost use Rattle.std.specs.Prelude.{◌≡◌, ◌<◌, false, is_none, IfSome};
-ghost use Rattle.answer.specs.declared.Answer.TheVariants as answers;
+ghost use Rattle.answer.specs.Answers.{Taken, with_value};
 ghost use Rattle.answer.specs.Rules.{answer_by};
 ghost use Rattle.block.specs.Table22.{parameters_by};
 ghost use Rattle.spdu.specs.Signature.{by_engine};
@@ -8,8 +8,7 @@ ghost use Rattle.bench.specs.Ports as ports;
 ghost use Rattle.bench.specs.Calls as calls;
 
 use crate::{Act, End, Setting};
-use answer::{Answer, refuse};
-use block::Judged;
+use answer::{Answer, Refusal, refuse_if};
 use scl::Happening;
 use signature::Signing;
 
@@ -25,68 +24,47 @@ pub fn place_of(port: u8) -> Option<usize>
     }
 }
 
-// 8 and 9, at the port of this setting, or at none.
-fn call_answer(setting: Option<Setting>) -> Answer
-    ensures { result ≡ answer_by answers.Taken (calls.port_rules (is_none setting) (calls.setting_in setting)) }
+// 8 and 9: the setting of a port that runs.
+fn running(setting: Option<Setting>) -> Result<Setting, Refusal>
+    ensures { result ≡ with_value (answer_by Taken (calls.port_rules (is_none setting) (calls.setting_in setting))) (calls.setting_in setting) }
 {
-    match setting {
-        None => Answer::NoPort,
-        Some(s) => refuse(Answer::Taken, !s.running, Answer::NotRunning),
-    }
+    let Some(s) = setting else {
+        return Err(Refusal::NoPort);
+    };
+    refuse_if(!s.running, Refusal::NotRunning)?;
+    Ok(s)
 }
 
 pub(crate) fn port_answer(port: u8, setting: Setting) -> Answer
-    ensures { result ≡ answer_by answers.Taken (calls.call_rules port setting) }
+    ensures { result ≡ answer_by Taken (calls.call_rules port setting) }
 {
-    let outside = ranges::outside(1, 8, port as u32);
-    let a = refuse(Answer::Taken, outside, Answer::NoPort);
-    refuse(a, !setting.running, Answer::NotRunning)
+    refuse_if(ranges::outside(1, 8, port.into()), Refusal::NoPort)?;
+    refuse_if(!setting.running, Refusal::NotRunning)
 }
 
 // 8, 9 and 7.
 fn safe_answer(setting: Option<Setting>, safe_holds: bool) -> Answer
-    ensures { result ≡ answer_by answers.Taken (calls.other_rules (is_none setting) (calls.setting_in setting) safe_holds) }
+    ensures { result ≡ answer_by Taken (calls.other_rules (is_none setting) (calls.setting_in setting) safe_holds) }
 {
-    refuse(call_answer(setting), !safe_holds, Answer::Buffer)
+    running(setting)?;
+    refuse_if(!safe_holds, Refusal::Buffer)
 }
 
 // The same and 10 of an SPDU of so many octets where so many are configured.
 fn spdu_answer(s: Setting, configured: u8, length: usize, safe_holds: bool) -> Answer
-    ensures { result ≡ answer_by answers.Taken (calls.spdu_rules false s configured length safe_holds) }
+    ensures { result ≡ answer_by Taken (calls.spdu_rules false s configured length safe_holds) }
 {
-    let length_holds = length == configured as usize;
-    let a = call_answer(Some(s));
-    let a = refuse(a, !length_holds, Answer::SpduLength);
-    refuse(a, !safe_holds, Answer::Buffer)
-}
-
-#[tactic(auto, unfolding(crate::specs::Calls::asked))]
-fn asked(answer: Answer, happening: Happening) -> Act
-    ensures { result ≡ calls.asked answer happening }
-{
-    if answer::is_taken(answer) {
-        Act::Happens(happening)
-    } else {
-        Act::Refused(answer)
-    }
-}
-
-#[tactic(auto, unfolding(crate::specs::Calls::asked_by_block))]
-fn asked_by_block(judged: Judged) -> Act
-    ensures { result ≡ calls.asked_by_block judged }
-{
-    if answer::is_taken(judged.answer) {
-        Act::Accepted(judged.params)
-    } else {
-        Act::Refused(judged.answer)
-    }
+    running(Some(s))?;
+    refuse_if(length != configured as usize, Refusal::SpduLength)?;
+    refuse_if(!safe_holds, Refusal::Buffer)
 }
 
 // A parameter block of any length.
-pub fn parameters_act(signing: &Signing, port: u8, octets: &[u8]) -> Act
+#[tactic(auto, unfolding(crate::specs::Calls::asked_by_block))]
+pub fn parameters_act(signing: &Signing, port: u8, octets: &[u8]) -> Result<Act, Refusal>
     ensures { result ≡ calls.parameters_act (parameters_by signing.now.engine signing.now.short.now) port octets.now }
 {
-    asked_by_block(block::judge_by(signing.engine, signing.short, octets, port))
+    Ok(Act::Accepted(block::judge_by(signing, octets, port)?))
 }
 
 // What an SPDU is at an end.
@@ -94,10 +72,8 @@ fn received(signing: &Signing, end: End, s: Setting, at: u32, spdu: &[u8]) -> Ha
     ensures { result ≡ calls.received (by_engine signing.now.engine signing.now.short.now signing.now.long.now) end s at spdu.now }
 {
     match end {
-        End::Master => {
-            Happening::Response(at, spdu::response_fields_by(signing, s.params, spdu))
-        }
-        End::Device => { Happening::Request(at, spdu::request_fields_by(signing, s.params, spdu)) }
+        End::Master => Happening::Response(at, spdu::response_fields_by(signing, s.params, spdu)),
+        End::Device => Happening::Request(at, spdu::request_fields_by(signing, s.params, spdu)),
     }
 }
 
@@ -109,39 +85,36 @@ pub fn spdu_act(
     at: u32,
     spdu: &[u8],
     safe_holds: bool,
-) -> Act
+) -> Result<Act, Refusal>
     ensures { result ≡ calls.spdu_act (by_engine signing.now.engine signing.now.short.now signing.now.long.now) end (is_none setting) (calls.setting_in setting) at spdu.now safe_holds }
 {
     let Some(s) = setting else {
-        return Act::Refused(Answer::NoPort);
+        return Err(Refusal::NoPort);
     };
-    let a = spdu_answer(s, end.length(s.params), spdu.len(), safe_holds);
-    if answer::is_taken(a) {
-        Act::Happens(received(signing, end, s, at, spdu))
-    } else {
-        Act::Refused(a)
-    }
+    spdu_answer(s, end.length(s.params), spdu.len(), safe_holds)?;
+    Ok(Act::Happens(received(signing, end, s, at, spdu)))
 }
 
 // A clock reading; `safe_holds` of both ends.
-pub fn clock_act(setting: Option<Setting>, at: u32, safe_holds: bool) -> Act
+#[tactic(auto, unfolding(crate::specs::Calls::asked))]
+pub fn clock_act(setting: Option<Setting>, at: u32, safe_holds: bool) -> Result<Act, Refusal>
     ensures { result ≡ calls.clock_act (is_none setting) (calls.setting_in setting) at safe_holds }
 {
-    asked(safe_answer(setting, safe_holds), Happening::Clock(at))
+    safe_answer(setting, safe_holds)?;
+    Ok(Act::Happens(Happening::Clock(at)))
 }
 
 // Operator signals.
+#[tactic(auto, unfolding(crate::specs::Calls::asked))]
 pub fn operator_act(
     setting: Option<Setting>,
     at: u32,
     setSD_C: bool,
     ChFAck_C: bool,
     safe_holds: bool,
-) -> Act
+) -> Result<Act, Refusal>
     ensures { result ≡ calls.operator_act (is_none setting) (calls.setting_in setting) at setSD_C ChFAck_C safe_holds }
 {
-    asked(
-        safe_answer(setting, safe_holds),
-        Happening::Operator(at, setSD_C, ChFAck_C),
-    )
+    safe_answer(setting, safe_holds)?;
+    Ok(Act::Happens(Happening::Operator(at, setSD_C, ChFAck_C)))
 }

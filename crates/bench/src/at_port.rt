@@ -64,7 +64,7 @@ pub(crate) fn said(turned: Turned) -> Reply
     ensures { result ≡ ports.said turned }
 {
     Reply {
-        answer: Answer::Taken,
+        answer: Ok(()),
         master: turned.master,
         device: turned.device,
         master_releases: turned.live.master.released,

@@ -1,5 +1,5 @@
 // The calls with a clock reading, at a port of the bench. Those that sign take the engine; what they come to is the same whichever it is.
-ghost use Rattle.std.specs.Prelude.{ℕ, ◌<◌, ◌≡◌, false, set};
+ghost use Rattle.std.specs.Prelude.{ℕ, ◌<◌, ◌≡◌, false, set, Ok, Err};
 ghost use Rattle.bench.specs.declared.Act.TheVariants as acts;
 ghost use Rattle.bench.specs.Methods.{annex_d};
 ghost use Rattle.bench.specs.Ports as ports;
@@ -10,7 +10,7 @@ use crate::acts::{clock_act, operator_act, parameters_act, place_of, spdu_act};
 use crate::at_port::{accepted_port, new_port, said, silent, stored};
 use crate::turns::turn;
 use crate::{Act, Bench, BenchAfter, End, Port};
-use answer::Answer;
+use answer::Refusal;
 use block::Params;
 use scl::Happening;
 use signature::{Engine, Signing};
@@ -36,12 +36,12 @@ fn with_port(b: Bench, i: usize, p: Port) -> Bench
 }
 
 // A refused call.
-fn refused(b: Bench, answer: Answer) -> BenchAfter
-    ensures { result ≡ record { bench = b; reply = ports.silent answer } }
+fn refused(b: Bench, refusal: Refusal) -> BenchAfter
+    ensures { result ≡ record { bench = b; reply = ports.silent (Err refusal) } }
 {
     BenchAfter {
         bench: b,
-        reply: silent(answer),
+        reply: silent(Err(refusal)),
     }
 }
 
@@ -49,11 +49,11 @@ fn refused(b: Bench, answer: Answer) -> BenchAfter
 #[tactic(auto, unfolding(crate::specs::Calls::done))]
 fn set_up(b: Bench, i: usize, p: Port, at: u32, params: Params) -> BenchAfter
     requires { i < 8 }
-    ensures { result ≡ storing.acted b i p at (acts.Accepted params) }
+    ensures { result ≡ storing.acted b i p at (Ok (acts.Accepted params)) }
 {
     BenchAfter {
         bench: with_port(b, i, accepted_port(p, params, at)),
-        reply: silent(Answer::Taken),
+        reply: silent(Ok(())),
     }
 }
 
@@ -61,7 +61,7 @@ fn set_up(b: Bench, i: usize, p: Port, at: u32, params: Params) -> BenchAfter
 #[tactic(auto, unfolding(crate::specs::Calls::done, crate::specs::Ports::step_of))]
 fn stepped(b: Bench, i: usize, p: Port, happening: Happening) -> BenchAfter
     requires { i < 8 }
-    ensures { (at : ℕ) → (result ≡ storing.acted b i p at (acts.Happens happening)) }
+    ensures { (at : ℕ) → (result ≡ storing.acted b i p at (Ok (acts.Happens happening))) }
 {
     let turned = turn(p.setting, p.live, happening);
     BenchAfter {
@@ -70,31 +70,35 @@ fn stepped(b: Bench, i: usize, p: Port, happening: Happening) -> BenchAfter
     }
 }
 
-// An act at the port p in place i, with the reading of its call.
+// What a call asks of the port p in place i, with its reading.
 #[tactic(auto, unfolding(crate::specs::Calls::done))]
-fn acted(b: Bench, i: usize, p: Port, at: u32, act: Act) -> BenchAfter
+fn acted(b: Bench, i: usize, p: Port, at: u32, asked: Result<Act, Refusal>) -> BenchAfter
     requires { i < 8 }
-    ensures { result ≡ storing.acted b i p at act }
+    ensures { result ≡ storing.acted b i p at asked }
 {
-    match act {
-        Act::Refused(answer) => refused(b, answer),
-        Act::Accepted(params) => set_up(b, i, p, at, params),
-        Act::Happens(happening) => stepped(b, i, p, happening),
+    match asked {
+        Err(refusal) => refused(b, refusal),
+        Ok(act) => match act {
+            Act::Accepted(params) => set_up(b, i, p, at, params),
+            Act::Happens(happening) => stepped(b, i, p, happening),
+        },
     }
 }
 
 // The same of a call that has no block, so that the last arm is never entered. It stands apart for the compiler, which puts it in line at each of
 // these calls; with the block's arm it would be called, and the bench copied on the way in and out.
 #[tactic(auto, unfolding(crate::specs::Calls::done))]
-fn happened(b: Bench, i: usize, p: Port, act: Act) -> BenchAfter
+fn happened(b: Bench, i: usize, p: Port, asked: Result<Act, Refusal>) -> BenchAfter
     requires place { i < 8 }
-    requires no_block { storing.has_block act ≡ false }
-    ensures { (at : ℕ) → (result ≡ storing.acted b i p at act) }
+    requires no_block { storing.has_block asked ≡ false }
+    ensures { (at : ℕ) → (result ≡ storing.acted b i p at asked) }
 {
-    match act {
-        Act::Refused(answer) => refused(b, answer),
-        Act::Happens(happening) => stepped(b, i, p, happening),
-        Act::Accepted(_) => refused(b, Answer::Taken),
+    match asked {
+        Err(refusal) => refused(b, refusal),
+        Ok(act) => match act {
+            Act::Happens(happening) => stepped(b, i, p, happening),
+            Act::Accepted(_) => refused(b, Refusal::NoPort),
+        },
     }
 }
 
@@ -102,7 +106,7 @@ pub fn set_parameters(engine: Engine, b: Bench, port: u8, at: u32, octets: &[u8]
     ensures { result ≡ calls.set_parameters annex_d b port at octets.now }
 {
     let Some(i) = place_of(port) else {
-        return refused(b, Answer::NoPort);
+        return refused(b, Refusal::NoPort);
     };
     let short = signature::table_for::<u16>(engine);
     let long = signature::table_for::<u32>(engine);
@@ -128,7 +132,7 @@ fn receive(
     ensures { result ≡ calls.receive annex_d b port end at spdu.now safe.now }
 {
     let Some(i) = place_of(port) else {
-        return refused(b, Answer::NoPort);
+        return refused(b, Refusal::NoPort);
     };
     let p = b.ports[i];
     let short = signature::table_for::<u16>(engine);
@@ -173,7 +177,7 @@ pub fn clock(b: Bench, port: u8, at: u32, safe_in: &[u8], safe_out: &[u8]) -> Be
     ensures { result ≡ calls.clock b port at safe_in.now safe_out.now }
 {
     let Some(i) = place_of(port) else {
-        return refused(b, Answer::NoPort);
+        return refused(b, Refusal::NoPort);
     };
     let p = b.ports[i];
     let params = p.setting.params;
@@ -192,7 +196,7 @@ pub fn operator(
     ensures { result ≡ calls.operator b port at setSD_C ChFAck_C safe.now }
 {
     let Some(i) = place_of(port) else {
-        return refused(b, Answer::NoPort);
+        return refused(b, Refusal::NoPort);
     };
     let p = b.ports[i];
     let holds = End::Master.safe_hold(p.setting.params, safe);

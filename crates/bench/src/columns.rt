@@ -17,6 +17,7 @@ pub fn lives_of(b: Bench) -> [Live; PORT_COUNT]
     b.ports.map(|p| p.live)
 }
 
+// The closure has a clause of its own, as `search` finds nothing of an array in an array otherwise.
 pub fn all_bins_of(b: Bench) -> [[u32; BIN_COUNT]; PORT_COUNT]
     ensures { result ≡ columns.all_bins_of b }
 {

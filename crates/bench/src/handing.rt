@@ -1,7 +1,7 @@
 // What a call handed on, at one end of a port: by the mark of the call's reply, from the bench that the call returned and what was lent to the
 // call. None of these is believed: octets of an SPDU go out only where that bench shows that the end admitted it and releases.
 ghost use Rattle.std.specs.Prelude.{◌≡◌, length, MatchResult};
-ghost use Rattle.answer.specs.declared.Answer.TheVariants as answers;
+ghost use Rattle.answer.specs.Answers.{Taken};
 ghost use Rattle.answer.specs.Rules.{answer_by};
 ghost use Rattle.bench.specs.Methods.{annex_d};
 ghost use Rattle.bench.specs.Ports.{port_at};
@@ -9,8 +9,8 @@ ghost use Rattle.bench.specs.Handing as handing;
 
 use crate::acts::port_answer;
 use crate::calls::port_at;
-use crate::{Bench, End, Handed, Port};
-use answer::{Answer, refuse};
+use crate::{Bench, End, Port};
+use answer::{Answer, Refusal, refuse_if};
 use scl::Mark;
 use signature::Engine;
 
@@ -58,12 +58,12 @@ fn allowed_mark(engine: Engine, end: End, p: Port, mark: Mark, spdu: &[u8]) -> M
 
 // 8, 9, 10 and 7; `holds`: what is lent holds.
 fn lent_answer(port: u8, p: Port, end: End, mark: Mark, length: usize, holds: bool) -> Answer
-    ensures { result ≡ answer_by answers.Taken (handing.lent_rules port p end mark length holds) }
+    ensures { result ≡ answer_by Taken (handing.lent_rules port p end mark length holds) }
 {
     let other_length = length != end.length(p.setting.params) as usize;
-    let a = port_answer(port, p.setting);
-    let a = refuse(a, scl::is_fresh(mark) & other_length, Answer::SpduLength);
-    refuse(a, !holds, Answer::Buffer)
+    port_answer(port, p.setting)?;
+    refuse_if(scl::is_fresh(mark) & other_length, Refusal::SpduLength)?;
+    refuse_if(!holds, Refusal::Buffer)
 }
 
 // The part that was handed on, of the SPDU or of the safe values; or why it is refused.
@@ -75,17 +75,13 @@ fn part_at<'a>(
     mark: Mark,
     spdu: &'a [u8],
     safe: &'a [u8],
-) -> Result<&'a [u8], Answer>
-    ensures { MatchResult result (λ part. handing.Parted annex_d port p end mark spdu.now safe.now part.now) (λ a. handing.Unparted port p end mark spdu.now safe.now a) }
+) -> Result<&'a [u8], Refusal>
+    ensures { MatchResult result (λ part. handing.Parted annex_d port p end mark spdu.now safe.now part.now) (λ r. handing.Unparted port p end mark spdu.now safe.now r) }
 {
     let holds = end.safe_hold(p.setting.params, safe);
-    let a = lent_answer(port, p, end, mark, spdu.len(), holds);
-    if answer::is_taken(a) {
-        let allowed = allowed_mark(engine, end, p, mark, spdu);
-        Ok(spdu::handed_on(allowed, p.setting.params.FSP_ProtMode, spdu, safe))
-    } else {
-        Err(a)
-    }
+    lent_answer(port, p, end, mark, spdu.len(), holds)?;
+    let allowed = allowed_mark(engine, end, p, mark, spdu);
+    Ok(spdu::handed_on(allowed, p.setting.params.FSP_ProtMode, spdu, safe))
 }
 
 // That part; empty in a refusal.
@@ -117,24 +113,11 @@ pub fn hand_on<'a>(
     spdu: &'a [u8],
     safe: &'a [u8],
     out: &mut [u8],
-) -> Handed
+) -> Result<usize, Refusal>
     ensures value { result ≡ handing.handed_to annex_d port (port_at b port) end mark spdu.now safe.now (length out.old) }
     ensures out_after { out.new ≡ handing.handed_out annex_d port (port_at b port) end mark spdu.now safe.now out.old }
 {
-    match part_at(engine, port, port_at(b, port), end, mark, spdu, safe) {
-        Ok(part) => {
-            if part.len() <= out.len() {
-                Handed {
-                    answer: Answer::Taken,
-                    octets: octets::copy(part, out),
-                }
-            } else {
-                Handed {
-                    answer: Answer::Buffer,
-                    octets: 0,
-                }
-            }
-        }
-        Err(answer) => Handed { answer, octets: 0 },
-    }
+    let part = part_at(engine, port, port_at(b, port), end, mark, spdu, safe)?;
+    refuse_if(out.len() < part.len(), Refusal::Buffer)?;
+    Ok(octets::copy(part, out))
 }

@@ -5,8 +5,7 @@ ghost use Rattle.bench.specs.Ports.{port_at};
 ghost use Rattle.bench.specs.Images as images;
 
 use crate::Bench;
-use crate::acts::port_answer;
-use crate::calls::port_at;
+use crate::shown::running_at;
 use answer::Answer;
 use signature::Engine;
 use spdu::{Control, Status};
@@ -24,25 +23,14 @@ pub fn compose(
     ensures value { result ≡ images.compose_answer port (port_at b port) process.now other.now octets.old }
     ensures octets_after { octets.new ≡ images.composed annex_d port (port_at b port) process.now other.now octets.old }
 {
-    let p = port_at(b, port);
-    let a = port_answer(port, p.setting);
-    if answer::is_taken(a) {
-        let m = p.live.master;
-        spdu::compose(
-            engine,
-            p.setting.params,
-            Control {
-                MCount: m.MCount,
-                setSD: m.setSD,
-                ChFAckReq: m.ChFAckReq,
-            },
-            process,
-            other,
-            octets,
-        )
-    } else {
-        a
-    }
+    let p = running_at(b, port)?;
+    let m = p.live.master;
+    let control = Control {
+        MCount: m.MCount,
+        setSD: m.setSD,
+        ChFAckReq: m.ChFAckReq,
+    };
+    spdu::compose(engine, p.setting.params, control, process, other, octets)
 }
 
 // The FS-Device's outgoing SPDU; zeros until its first response.
@@ -51,26 +39,15 @@ pub fn build_response(engine: Engine, b: Bench, port: u8, process: &[u8], out: &
     ensures value { result ≡ images.build_answer port (port_at b port) process.now out.old }
     ensures out_after { out.new ≡ images.response_out annex_d port (port_at b port) process.now out.old }
 {
-    let p = port_at(b, port);
-    let a = port_answer(port, p.setting);
-    if answer::is_taken(a) {
-        let d = p.live.device;
-        spdu::build_response(
-            engine,
-            p.setting.params,
-            d.responded,
-            Status {
-                DCount_i: d.DCount_i,
-                SDset: d.SDset,
-                DCommErr: d.DCommErr,
-                DTimeout: d.DTimeout,
-            },
-            process,
-            out,
-        )
-    } else {
-        a
-    }
+    let p = running_at(b, port)?;
+    let d = p.live.device;
+    let status = Status {
+        DCount_i: d.DCount_i,
+        SDset: d.SDset,
+        DCommErr: d.DCommErr,
+        DTimeout: d.DTimeout,
+    };
+    spdu::build_response(engine, p.setting.params, d.responded, status, process, out)
 }
 
 // TAKEN where the image has the FS-Master's SPDU and the other data.
@@ -78,24 +55,17 @@ pub fn build_response(engine: Engine, b: Bench, port: u8, process: &[u8], out: &
 pub fn split(b: Bench, port: u8, octets: &[u8]) -> Answer
     ensures { result ≡ images.split_answer port (port_at b port) octets.now }
 {
-    let p = port_at(b, port);
-    let a = port_answer(port, p.setting);
-    if answer::is_taken(a) {
-        spdu::split(p.setting.params, octets)
-    } else {
-        a
-    }
+    spdu::split(running_at(b, port)?.setting.params, octets)
 }
 
+// The parts are two functions that have no refusal, and not one Result of both: of a refused image each is empty, as C is told by their lengths.
 #[tactic(auto, unfolding(crate::specs::Images::spdu_part))]
 pub fn spdu_part(b: Bench, port: u8, octets: &[u8]) -> &[u8]
     ensures { result.now ≡ images.spdu_part port (port_at b port) octets.now }
 {
-    let p = port_at(b, port);
-    if answer::is_taken(port_answer(port, p.setting)) {
-        spdu::spdu_part(p.setting.params, octets)
-    } else {
-        &octets[..0]
+    match running_at(b, port) {
+        Ok(p) => spdu::spdu_part(p.setting.params, octets),
+        Err(_) => &octets[..0],
     }
 }
 
@@ -103,10 +73,8 @@ pub fn spdu_part(b: Bench, port: u8, octets: &[u8]) -> &[u8]
 pub fn other_part(b: Bench, port: u8, octets: &[u8]) -> &[u8]
     ensures { result.now ≡ images.other_part port (port_at b port) octets.now }
 {
-    let p = port_at(b, port);
-    if answer::is_taken(port_answer(port, p.setting)) {
-        spdu::other_part(p.setting.params, octets)
-    } else {
-        &octets[..0]
+    match running_at(b, port) {
+        Ok(p) => spdu::other_part(p.setting.params, octets),
+        Err(_) => &octets[..0],
     }
 }

@@ -30,7 +30,7 @@ pub use histogram::BIN_COUNT;
 use histogram::Totals;
 pub use images::{build_response, compose, other_part, spdu_part, split};
 use scl::{Happening, Mark};
-pub use shown::{bins_of, device_of, master_of, trend_of};
+pub use shown::{bins_of, bins_told, device_of, device_told, master_of, master_told, trend_of};
 pub use turns::{accepted, begun, turn};
 
 pub const PORT_COUNT: usize = 8;
@@ -71,11 +71,9 @@ pub struct Bench {
     pub ports: [Port; PORT_COUNT],
 }
 
-// What a call with a reading asks of the port that it addresses.
+// What a call with a reading that is not refused asks of the port that it addresses.
 #[derive(Clone, Copy)]
 pub enum Act {
-    // Nothing: it is refused.
-    Refused(Answer),
     // To accept these parameters.
     Accepted(Params),
     // To let this happen.
@@ -92,7 +90,7 @@ pub struct Turned {
 }
 
 // What a call says: its answer, and for each end what is handed on and whether the end releases after the call. In a refusal nothing is
-// handed on and nothing is said to be released.
+// handed on and nothing is said to be released: the definitions `silent` and `said` have the marks beside either answer, and so has C.
 #[derive(Clone, Copy)]
 pub struct Reply {
     pub answer: Answer,
@@ -116,32 +114,10 @@ pub enum End {
     Device,
 }
 
-// How many octets were copied of what a call handed on.
-#[derive(Clone, Copy)]
-pub struct Handed {
-    pub answer: Answer,
-    pub octets: usize,
-}
-
 // The bins of a port with their total and the frozen mark.
 #[derive(Clone, Copy)]
 pub struct Bins {
-    pub answer: Answer,
     pub bins: [u32; BIN_COUNT],
     pub total: u32,
     pub frozen: bool,
-}
-
-// State and signals of a port's FS-Master.
-#[derive(Clone, Copy)]
-pub struct MasterShown {
-    pub answer: Answer,
-    pub master: Master,
-}
-
-// State and signals of a port's FS-Device.
-#[derive(Clone, Copy)]
-pub struct DeviceShown {
-    pub answer: Answer,
-    pub device: Device,
 }

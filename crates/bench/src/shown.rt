@@ -1,24 +1,27 @@
 // The calls that show a port.
 ghost use Rattle.std.specs.Prelude.{◌≡◌};
+ghost use Rattle.answer.specs.Answers.{Taken, with_value};
+ghost use Rattle.answer.specs.Rules.{answer_by};
 ghost use Rattle.bench.specs.Ports.{histogram_of, port_at};
+ghost use Rattle.bench.specs.Calls.{call_rules};
 ghost use Rattle.bench.specs.Shown as shown;
 
 use crate::acts::port_answer;
 use crate::at_port::new_port;
 use crate::calls::port_at;
-use crate::{Bench, Bins, DeviceShown, MasterShown, Port};
-use answer::{Answer, refuse};
-use histogram::{Histogram, Trend};
+use crate::{Bench, Bins, Port};
+use answer::Refusal;
+use fs_device::Device;
+use fs_master::Master;
+use histogram::{Histogram, TrendPoint};
 
-#[tactic(auto, unfolding(crate::specs::Shown::seen))]
-fn seen(port: u8, p: Port) -> Port
-    ensures { result ≡ shown.seen port p }
+// 8 and 9: the port of a number, where it runs.
+pub(crate) fn running_at(b: Bench, port: u8) -> Result<Port, Refusal>
+    ensures { result ≡ with_value (answer_by Taken (call_rules port (port_at b port).setting)) (port_at b port) }
 {
-    if answer::is_taken(port_answer(port, p.setting)) {
-        p
-    } else {
-        new_port()
-    }
+    let p = port_at(b, port);
+    port_answer(port, p.setting)?;
+    Ok(p)
 }
 
 fn histogram_of(p: Port) -> Histogram
@@ -27,84 +30,64 @@ fn histogram_of(p: Port) -> Histogram
     histogram::with_bins(p.live.totals, p.bins)
 }
 
-// The trend point; three zeros in a refusal.
+// The trend point.
 #[tactic(auto, unfolding(crate::specs::Shown::trend_of))]
-pub fn trend_of(b: Bench, port: u8) -> Trend
+pub fn trend_of(b: Bench, port: u8) -> Result<TrendPoint, Refusal>
     ensures { result ≡ shown.trend_of port (port_at b port) }
 {
-    let p = port_at(b, port);
-    let shown = seen(port, p);
-    Trend {
-        answer: refuse(
-            port_answer(port, p.setting),
-            p.live.totals.total == 0,
-            Answer::NoSamples,
-        ),
-        point: histogram::trend_of(histogram_of(shown)).point,
-    }
+    histogram::trend_of(histogram_of(running_at(b, port)?))
 }
 
-#[tactic(auto, unfolding(crate::specs::Shown::bins_of))]
-pub fn bins_of(b: Bench, port: u8) -> Bins
-    ensures { result ≡ shown.bins_of port (port_at b port) }
+fn bins_at(p: Port) -> Bins
+    ensures { result ≡ shown.bins_at p }
 {
-    let p = port_at(b, port);
-    let h = histogram_of(seen(port, p));
+    let h = histogram_of(p);
     // Named first, as the borrow check takes no array's field in a literal.
     let bins = h.bins;
     Bins {
-        answer: port_answer(port, p.setting),
         bins,
         total: h.total,
         frozen: histogram::frozen(h),
     }
 }
 
-// One end of a port is copied by itself, not with all of the port.
-#[tactic(auto, unfolding(crate::specs::Shown::master_of, crate::specs::Shown::seen, crate::specs::Ports::new_port))]
-fn master_at(port: u8, p: Port) -> MasterShown
-    ensures { result ≡ shown.master_of port p }
+#[tactic(auto, unfolding(crate::specs::Shown::bins_of))]
+pub fn bins_of(b: Bench, port: u8) -> Result<Bins, Refusal>
+    ensures { result ≡ shown.bins_of port (port_at b port) }
 {
-    let answer = port_answer(port, p.setting);
-    if answer::is_taken(answer) {
-        MasterShown {
-            answer,
-            master: p.live.master,
-        }
-    } else {
-        MasterShown {
-            answer,
-            master: fs_master::first(0),
-        }
-    }
+    Ok(bins_at(running_at(b, port)?))
 }
 
-pub fn master_of(b: Bench, port: u8) -> MasterShown
+#[tactic(auto, unfolding(crate::specs::Shown::master_of))]
+pub fn master_of(b: Bench, port: u8) -> Result<Master, Refusal>
     ensures { result ≡ shown.master_of port (port_at b port) }
 {
-    master_at(port, port_at(b, port))
+    Ok(running_at(b, port)?.live.master)
 }
 
-#[tactic(auto, unfolding(crate::specs::Shown::device_of, crate::specs::Shown::seen, crate::specs::Ports::new_port))]
-fn device_at(port: u8, p: Port) -> DeviceShown
-    ensures { result ≡ shown.device_of port p }
-{
-    let answer = port_answer(port, p.setting);
-    if answer::is_taken(answer) {
-        DeviceShown {
-            answer,
-            device: p.live.device,
-        }
-    } else {
-        DeviceShown {
-            answer,
-            device: fs_device::first(0),
-        }
-    }
-}
-
-pub fn device_of(b: Bench, port: u8) -> DeviceShown
+#[tactic(auto, unfolding(crate::specs::Shown::device_of))]
+pub fn device_of(b: Bench, port: u8) -> Result<Device, Refusal>
     ensures { result ≡ shown.device_of port (port_at b port) }
 {
-    device_at(port, port_at(b, port))
+    Ok(running_at(b, port)?.live.device)
+}
+
+// What is told, also of a refusal: what a port that never ran shows. Of a trend point `histogram::point_told` says it. Three, as C has a struct for each.
+
+pub fn bins_told(told: Result<Bins, Refusal>) -> Bins
+    ensures { result ≡ shown.told_bins told }
+{
+    told.unwrap_or(bins_at(new_port()))
+}
+
+pub fn master_told(told: Result<Master, Refusal>) -> Master
+    ensures { result ≡ shown.told_master told }
+{
+    told.unwrap_or(new_port().live.master)
+}
+
+pub fn device_told(told: Result<Device, Refusal>) -> Device
+    ensures { result ≡ shown.told_device told }
+{
+    told.unwrap_or(new_port().live.device)
 }

@@ -1,20 +1,22 @@
 -- Each answer to a block, number and offset, is given exactly where its rule is broken and none before it is; TAKEN exactly where none is broken,
 -- and then with the parameters that stand in the block. Over every list of octets and every port. Assumes nothing.
-use mathlib.Core.Path.{◌≡◌, refl, ap}
+use mathlib.Core.Path.{◌≡◌, refl}
 use mathlib.Core.Logic.{◌↔◌}
-use mathlib.Core.Bool.{Bool, true, false, cond}
+use mathlib.Core.Bool.{true, false, true≢false, false≢true}
 use mathlib.Core.List.{List, [], ◌∷◌}
 use Prim.Native.Nat.{ℕ, ◌<◌}
-use Rattle.answer.specs.Answers.{number_of, offset_of, is_taken}
-use Rattle.answer.specs.Rules.{Rule, rule, answer_at, First, Kept}
+use Rattle.std.specs.Prelude.{Ok, Err}
+use Rattle.answer.specs.Answers.{Answer, Taken, refusal_number, refusal_offset, is_taken, with_value, without_value}
+use Rattle.answer.specs.Rules.{Rule, rule, answer_by, answer_at, First, Kept}
 use Rattle.answer.proofs.Exact.{given_exactly, taken_exactly}
+use Rattle.answer.proofs.Values.{answer_alone, answer_taken}
 use Rattle.block.specs.Table22.{params_of}
-use Rattle.block.specs.Rules.{rules_on, no_params, judged}
+use Rattle.block.specs.Rules.{rules_on, no_params, judged, params_in}
 
 -- each rule's number and offset
 abbrev answers_in : List Rule → List (ℕ × ℕ)
 answers_in [] = []
-answers_in (rule broken refusal ∷ rules) = (number_of refusal, offset_of refusal) ∷ answers_in rules
+answers_in (rule broken refusal ∷ rules) = (refusal_number refusal, refusal_offset refusal) ∷ answers_in rules
 
 module _ (s : List ℕ) (port : ℕ) where
   -- "Order for a parameter block: 8, 1, 2, 3, 4, 5, 12, 6", of 5 and 6 the lowest offset first
@@ -24,17 +26,25 @@ module _ (s : List ℕ) (port : ℕ) where
       ∷ (12, 0) ∷ (6, 23) ∷ (6, 29) ∷ (6, 35) ∷ []
   in_order = refl
 
-  pub given : (i : ℕ) → i < 24 → ((judged s port).answer ≡ answer_at (rules_on s port) i) ↔ First (rules_on s port) i
-  given i h = given_exactly (rules_on s port) tt tt i h
+  pub given : (i : ℕ) → i < 24 → (without_value (judged s port) ≡ answer_at (rules_on s port) i) ↔ First (rules_on s port) i
+  given i h = rw (answer_alone (answer_by Taken (rules_on s port)) (params_of s)) (given_exactly (rules_on s port) tt i h)
 
-  pub taken : (is_taken (judged s port).answer ≡ true) ↔ Kept (rules_on s port)
-  taken = taken_exactly (rules_on s port) tt tt
+  pub taken : (is_taken (judged s port) ≡ true) ↔ Kept (rules_on s port)
+  taken = rw (answer_taken (answer_by Taken (rules_on s port)) (params_of s)) (taken_exactly (rules_on s port))
 
-  pub taken_params : is_taken (judged s port).answer ≡ true → (judged s port).params ≡ params_of s
-  taken_params e = ap (λ (b : Bool). cond b (params_of s) no_params) e
+  pub taken_params : is_taken (judged s port) ≡ true → params_in (judged s port) ≡ params_of s
+  taken_params e = in_case (answer_by Taken (rules_on s port)) e
+    where
+      in_case : (a : Answer) → is_taken (with_value a (params_of s)) ≡ true → params_in (with_value a (params_of s)) ≡ params_of s
+      in_case (Ok t) e = refl
+      in_case (Err r) e = absurd (false≢true e)
 
-  pub refused-params : is_taken (judged s port).answer ≡ false → (judged s port).params ≡ no_params
-  refused-params e = ap (λ (b : Bool). cond b (params_of s) no_params) e
+  pub refused-params : is_taken (judged s port) ≡ false → params_in (judged s port) ≡ no_params
+  refused-params e = in_case (answer_by Taken (rules_on s port)) e
+    where
+      in_case : (a : Answer) → is_taken (with_value a (params_of s)) ≡ false → params_in (with_value a (params_of s)) ≡ no_params
+      in_case (Ok t) e = absurd (true≢false e)
+      in_case (Err r) e = refl
 
 -- no parameters: each reads 0, as an octet past the end does
 pub none_stand : no_params ≡ params_of []

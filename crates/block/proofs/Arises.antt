@@ -9,13 +9,12 @@ use borrow.Author.Tests.{ltb-true}
 use lib.Dec.{ltb, lit<}
 use lib.ListN.{drop, set}
 use lib.Pow.{are_bytes}
-use Rattle.answer.specs.Answers.{number_of, offset_of}
-use Rattle.answer.specs.declared.Answer.TheVariants.{Taken}
+use Rattle.answer.specs.Answers.{Taken, number_of, offset_of}
 use Rattle.answer.specs.Rules.{answer_by, First, Kept}
 use Rattle.signature.specs.Signature.{shift_in, shift_in_all, octet, signature}
 use Rattle.block.specs.Octets.{Octets}
 use Rattle.block.specs.Table22.{block_of, parameter_signature, computed, params_of}
-use Rattle.block.specs.Rules.{rules_on, no_params, judged}
+use Rattle.block.specs.Rules.{rules_on, no_params, judged, params_in}
 use Rattle.block.specs.Accepted.{Accepted}
 use Rattle.block.proofs.Answered.{given, taken, taken_params, refused-params}
 use Rattle.block.proofs.Bounds.{accepted}
@@ -40,7 +39,7 @@ good =
 
 -- the answer's number and offset
 abbrev answered : List ℕ → ℕ → ℕ × ℕ
-answered s port = let a = (judged s port).answer in (number_of a, offset_of a)
+answered s port = let a = judged s port in (number_of a, offset_of a)
 
 -- the good block, and for each rule, in their order, one that breaks it; and the answer
 abbrev rows : List ((ℕ × ℕ) × (ℕ × ℕ))
@@ -87,14 +86,14 @@ pub taken_met : Kept (rules_on good 1)
 unfolding signature octet shift_in_all shift_in
 taken_met = (taken good 1).0 refl
 
-pub taken_params_met : (judged good 1).params ≡ params_of good
+pub taken_params_met : params_in (judged good 1) ≡ params_of good
 unfolding signature octet shift_in_all shift_in
 taken_params_met = taken_params good 1 refl
 
-pub refused_params_met : (judged good 9).params ≡ no_params
+pub refused_params_met : params_in (judged good 9) ≡ no_params
 refused_params_met = refused-params good 9 refl
 
-pub accepted_met : Accepted 1 (judged good 1).params
+pub accepted_met : Accepted 1 (params_in (judged good 1))
 unfolding signature octet shift_in_all shift_in
 accepted_met = accepted good 1 (octets_of_lem good refl) refl
 

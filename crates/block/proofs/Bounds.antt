@@ -13,7 +13,7 @@ use Rattle.block.specs.Table22.{params_of}
 use Rattle.answer.specs.Answers.{is_taken}
 use Rattle.answer.specs.Rules.{Kept}
 use Rattle.ranges.specs.Fields.{inside, outside, neither, safety_octets, most_process_octets, length_broken}
-use Rattle.block.specs.Rules.{rules_on, judged}
+use Rattle.block.specs.Rules.{rules_on, judged, params_in}
 use Rattle.block.specs.Accepted.{SpduFits, Accepted}
 use Rattle.block.proofs.Answered.{taken, taken_params}
 
@@ -77,7 +77,7 @@ mode_known m h e f =
     (λ v. let c : 96 < m = past 52 96 m y.1 (omega (arith, nleb→lt m 51 v)) in absurd (omega (arith, past 97 255 m x.1 (omega arith))))))
 
 -- ---- what is accepted is within its bounds
-pub accepted : (s : List ℕ) (port : ℕ) → Octets s → is_taken (judged s port).answer ≡ true → Accepted port (judged s port).params
+pub accepted : (s : List ℕ) (port : ℕ) → Octets s → is_taken (judged s port) ≡ true → Accepted port (params_in (judged s port))
 accepted s port octets e = rw (taken_params s port e) bounds
   where
     kept : Kept (rules_on s port)

@@ -1,16 +1,15 @@
 -- 01, "Answer numbers" and "The parameter block": the rules on a block in the order 8, 1, 2, 3, 4, 5, 12, 6. The ranges of 3 to 5 are the crate
 -- `ranges`'s. Assumes nothing.
-use Rattle.std.specs.Prelude.{ℕ, cond, not, List, [], ◌∷◌, ◌++◌, eqb, length}
-use Rattle.answer.specs.declared.Answer.{Answer}
-use Rattle.answer.specs.declared.Answer.TheVariants.{Taken, BlockSize, BlockId, Signature, NoPort, PortMismatch}
-use Rattle.answer.specs.Answers.{is_taken}
+use Rattle.std.specs.Prelude.{ℕ, not, List, [], ◌∷◌, ◌++◌, eqb, length, Result, Ok, Err}
+use Rattle.answer.specs.declared.Refusal.{Refusal}
+use Rattle.answer.specs.declared.Refusal.TheVariants.{BlockSize, BlockId, Signature, NoPort, PortMismatch}
+use Rattle.answer.specs.Answers.{Taken, with_value}
 use Rattle.answer.specs.Rules.{Rule, rule, answer_by}
 use Rattle.ranges.specs.Fields.{outside}
 use Rattle.ranges.specs.Rules.{mode_rules, device_rules, protocol_rules, description_rules, input_rules, output_rules}
 use Rattle.block.specs.declared.Params.{Params}
 use Rattle.block.specs.declared.Signatures.{Signatures}
 use Rattle.block.specs.declared.Block.{Block}
-use Rattle.block.specs.declared.Judged.{Judged}
 use Rattle.block.specs.Table22.{params_of, block_of, parameter_signature, computed}
 
 -- the port addressed, and the block's size
@@ -79,12 +78,14 @@ no_params = record {
   TotalOfOutInt32 = 0;
 }
 
--- the answer, and with TAKEN the block's parameters
-abbrev pub judged_as : Answer → Params → Judged
-judged_as a p = record { answer = a; params = cond (is_taken a) p no_params }
+-- with TAKEN the block's parameters
+abbrev pub judged_by : (List ℕ → ℕ) → List ℕ → ℕ → Result Params Refusal
+judged_by sign s port = with_value (answer_by Taken (rules_by sign s port)) (params_of s)
 
-abbrev pub judged_by : (List ℕ → ℕ) → List ℕ → ℕ → Judged
-judged_by sign s port = judged_as (answer_by Taken (rules_by sign s port)) (params_of s)
-
-abbrev pub judged : List ℕ → ℕ → Judged
+abbrev pub judged : List ℕ → ℕ → Result Params Refusal
 judged s port = judged_by parameter_signature s port
+
+-- the parameters that are told of a block: of a refused one zeros
+abbrev pub params_in : Result Params Refusal → Params
+params_in (Ok p) = p
+params_in (Err r) = no_params

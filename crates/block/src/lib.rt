@@ -2,21 +2,23 @@
 #![tactic(auto)]
 
 ghost use Rattle.std.specs.Prelude.{◌≡◌};
+ghost use Rattle.answer.specs.Answers.{Taken};
 ghost use Rattle.answer.specs.Rules.{answer_by};
-ghost use Rattle.block.specs.Rules.{id_rules, field_rules, agreement_rules, no_params, judged_as, judged_by, judged};
+ghost use Rattle.block.specs.Rules.{id_rules, field_rules, agreement_rules, no_params, judged_by, judged};
 ghost use Rattle.block.specs.Table22.{parameters_by};
 
 mod octets;
 
-use answer::{Answer, refuse};
-pub use octets::word;
-use signature::Engine;
+use answer::{Answer, Refusal, refuse_if};
+use ranges::Described;
+use signature::{Engine, Signing};
 
 // An accepted block as it stands, under 000's names: all but its ID and the three signatures that are checked. The layers above read
 // FSP_Port, FSP_ProtMode, FSP_WatchdogTime (W) and the four lengths: InputDataLength is n, OutputDataLength p, SPDUInLength m, SPDUOutLength o.
 // They read no other field; the others are kept so that a caller can be shown the accepted block. The widest stand first, so that no octet is padding.
+// The two directions are no type of their own here: C reads this layout.
 #[repr(C)]
-#[derive(Clone, Copy)]
+#[derive(Clone, Copy, Default)]
 pub struct Params {
     pub DeviceID: u32,
     pub FSCP_Authenticity1: u32,
@@ -62,160 +64,106 @@ pub struct Block {
     pub signatures: Signatures,
 }
 
-// The answer, and the parameters of a block that is accepted; of a refusal none.
-#[derive(Clone, Copy)]
-pub struct Judged {
-    pub answer: Answer,
-    pub params: Params,
+impl Block {
+    fn id(self) -> Answer
+        ensures { result ≡ answer_by Taken (id_rules self) }
+    {
+        refuse_if(self.ArgBlockID != 0x8001, Refusal::BlockId)
+    }
+
+    fn fields(self) -> Answer
+        ensures { result ≡ answer_by Taken (field_rules self) }
+    {
+        let p = self.params;
+        ranges::port_mode(p.PortMode)?;
+        ranges::device(
+            p.ValidationBackup,
+            p.IQBehavior,
+            p.VendorID,
+            p.DeviceID,
+            p.InputDataLength,
+            p.OutputDataLength,
+        )?;
+        ranges::protocol(
+            p.FSP_Port,
+            p.FSP_ProtVersion,
+            p.FSP_ProtMode,
+            p.FSP_WatchdogTime,
+        )?;
+        ranges::description(p.IO_DescVersion)?;
+        let input = Described {
+            length: p.SPDUInLength,
+            bits: p.TotalOfInBits,
+            octets: p.TotalOfInOctets,
+            int16: p.TotalOfInInt16,
+            int32: p.TotalOfInInt32,
+        };
+        let output = Described {
+            length: p.SPDUOutLength,
+            bits: p.TotalOfOutBits,
+            octets: p.TotalOfOutOctets,
+            int16: p.TotalOfOutInt16,
+            int32: p.TotalOfOutInt32,
+        };
+        ranges::described::<38, 39>(p.FSP_ProtMode, p.InputDataLength, input)?;
+        ranges::described::<43, 44>(p.FSP_ProtMode, p.OutputDataLength, output)
+    }
+
+    fn agreement(self, right: Signatures, port: u8) -> Answer
+        ensures { result ≡ answer_by Taken (agreement_rules self right port) }
+    {
+        let found = self.signatures;
+        refuse_if(self.params.FSP_Port != port, Refusal::PortMismatch)?;
+        refuse_if(
+            found.FSP_AuthentCRC != right.FSP_AuthentCRC,
+            Refusal::Signature(23),
+        )?;
+        refuse_if(
+            found.FSP_IO_StructCRC != right.FSP_IO_StructCRC,
+            Refusal::Signature(29),
+        )?;
+        refuse_if(
+            found.FSP_ProtParCRC != right.FSP_ProtParCRC,
+            Refusal::Signature(35),
+        )
+    }
 }
 
-// Judges octets of any length, addressed to any port, by an engine; the short table is lent, so that a loop names it once.
-pub fn judge_by(engine: Engine, short: &[u16; 256], octets: &[u8], port: u8) -> Judged
-    ensures { result ≡ judged_by (parameters_by engine short.now) octets.now port }
+// Judges octets of any length, addressed to any port: the parameters of a block that is accepted, or why it is refused.
+pub fn judge_by(signing: &Signing, octets: &[u8], port: u8) -> Result<Params, Refusal>
+    ensures { result ≡ judged_by (parameters_by signing.now.engine signing.now.short.now) octets.now port }
 {
-    if ranges::outside(1, 8, port as u32) {
-        return Judged {
-            answer: Answer::NoPort,
-            params: no_params(),
-        };
-    }
-    if octets.len() != 48 {
-        return Judged {
-            answer: Answer::BlockSize,
-            params: no_params(),
-        };
-    }
-    let b = octets::block(octets);
-    let right = octets::computed(engine, short, octets);
-    let a = agreement(fields(id(b), b), b, right, port);
-    judged_as(a, b.params)
+    refuse_if(ranges::outside(1, 8, port.into()), Refusal::NoPort)?;
+    let Ok(octets) = <&[u8; 48]>::try_from(octets) else {
+        return Err(Refusal::BlockSize);
+    };
+    let b = Block::read(octets);
+    b.id()?;
+    b.fields()?;
+    b.agreement(Signatures::computed(signing, octets), port)?;
+    Ok(b.params)
 }
 
-// The same with a table of its own: what 000 says, whichever the engine.
-pub fn judge(engine: Engine, octets: &[u8], port: u8) -> Judged
+// The same with tables of its own: what 000 says, whichever the engine.
+pub fn judge(engine: Engine, octets: &[u8], port: u8) -> Result<Params, Refusal>
     ensures { result ≡ judged octets.now port }
 {
     let short = signature::table_for::<u16>(engine);
-    judge_by(engine, &short, octets, port)
+    let long = signature::table_for::<u32>(engine);
+    judge_by(
+        &Signing {
+            engine,
+            short: &short,
+            long: &long,
+        },
+        octets,
+        port,
+    )
 }
 
 // The parameters of a port that has none: zeros.
 pub fn no_params() -> Params
     ensures { result ≡ no_params }
 {
-    Params {
-        PortMode: 0,
-        ValidationBackup: 0,
-        IQBehavior: 0,
-        PortCycleTime: 0,
-        VendorID: 0,
-        DeviceID: 0,
-        InputDataLength: 0,
-        OutputDataLength: 0,
-        FSCP_Authenticity1: 0,
-        FSCP_Authenticity2: 0,
-        FSP_Port: 0,
-        FSP_ProtVersion: 0,
-        FSP_ProtMode: 0,
-        FSP_WatchdogTime: 0,
-        FSP_TechParCRC: 0,
-        IO_DescVersion: 0,
-        SPDUInLength: 0,
-        TotalOfInBits: 0,
-        TotalOfInOctets: 0,
-        TotalOfInInt16: 0,
-        TotalOfInInt32: 0,
-        SPDUOutLength: 0,
-        TotalOfOutBits: 0,
-        TotalOfOutOctets: 0,
-        TotalOfOutInt16: 0,
-        TotalOfOutInt32: 0,
-    }
-}
-
-fn id(b: Block) -> Answer
-    ensures { result ≡ answer_by Answer.Taken (id_rules b) }
-{
-    refuse(Answer::Taken, !(b.ArgBlockID == 0x8001), Answer::BlockId)
-}
-
-fn fields(a: Answer, b: Block) -> Answer
-    ensures { result ≡ answer_by a (field_rules b) }
-{
-    let p = b.params;
-    let version = p.IO_DescVersion;
-    let a = ranges::port_mode(a, p.PortMode);
-    let a = ranges::device(
-        a,
-        p.ValidationBackup,
-        p.IQBehavior,
-        p.VendorID,
-        p.DeviceID,
-        p.InputDataLength,
-        p.OutputDataLength,
-    );
-    let a = ranges::protocol(
-        a,
-        p.FSP_Port,
-        p.FSP_ProtVersion,
-        p.FSP_ProtMode,
-        p.FSP_WatchdogTime,
-    );
-    let a = ranges::description(a, version);
-    let a = ranges::input(
-        a,
-        p.FSP_ProtMode,
-        p.InputDataLength,
-        p.SPDUInLength,
-        p.TotalOfInBits,
-        p.TotalOfInOctets,
-        p.TotalOfInInt16,
-        p.TotalOfInInt32,
-    );
-    ranges::output(
-        a,
-        p.FSP_ProtMode,
-        p.OutputDataLength,
-        p.SPDUOutLength,
-        p.TotalOfOutBits,
-        p.TotalOfOutOctets,
-        p.TotalOfOutInt16,
-        p.TotalOfOutInt32,
-    )
-}
-
-fn agreement(a: Answer, b: Block, right: Signatures, port: u8) -> Answer
-    ensures { result ≡ answer_by a (agreement_rules b right port) }
-{
-    let p = b.params;
-    let found = b.signatures;
-    let a = refuse(a, !(p.FSP_Port == port), Answer::PortMismatch);
-    let a = refuse(
-        a,
-        !(found.FSP_AuthentCRC == right.FSP_AuthentCRC),
-        Answer::Signature(23),
-    );
-    let a = refuse(
-        a,
-        !(found.FSP_IO_StructCRC == right.FSP_IO_StructCRC),
-        Answer::Signature(29),
-    );
-    refuse(
-        a,
-        !(found.FSP_ProtParCRC == right.FSP_ProtParCRC),
-        Answer::Signature(35),
-    )
-}
-
-fn judged_as(answer: Answer, params: Params) -> Judged
-    ensures { result ≡ judged_as answer params }
-{
-    if answer::is_taken(answer) {
-        Judged { answer, params }
-    } else {
-        Judged {
-            answer,
-            params: no_params(),
-        }
-    }
+    Params::default()
 }

@@ -1,97 +1,92 @@
 // A block of 48 octets, read.
-ghost use Rattle.std.specs.Prelude.{◌≡◌, length, ◌+◌, ◌≤◌};
+ghost use Rattle.std.specs.Prelude.{◌≡◌, ◌+◌, ◌≤◌};
 ghost use Rattle.block.specs.Octets as octets;
-ghost use Rattle.block.specs.Table22.{params_of, carried, block_of, parameters_by};
+ghost use Rattle.block.specs.Table22.{params_of, block_of, parameters_by};
 ghost use Rattle.block.specs.Table22 as table22;
 
 use crate::{Block, Params, Signatures};
-use signature::{Engine, sign_with};
+use signature::Signing;
 
-// Two octets as one number.
-pub fn word(a: u8, b: u8) -> u16
-    ensures { result ≡ octets.word a b }
-{
-    a as u16 * 256 + b as u16
-}
-
-fn unsigned16(s: &[u8], at: usize) -> u16
-    requires { at + 2 ≤ length s.now }
+fn unsigned16(s: &[u8; 48], at: usize) -> u16
+    requires { at + 2 ≤ 48 }
     ensures { result ≡ octets.unsigned16 s.now at }
 {
-    word(s[at], s[at + 1])
+    u16::from_be_bytes([s[at], s[at + 1]])
 }
 
-fn unsigned32(s: &[u8], at: usize) -> u32
-    requires { at + 4 ≤ length s.now }
+fn unsigned32(s: &[u8; 48], at: usize) -> u32
+    requires { at + 4 ≤ 48 }
     ensures { result ≡ octets.unsigned32 s.now at }
 {
-    unsigned16(s, at) as u32 * 65536 + unsigned16(s, at + 2) as u32
+    u32::from_be_bytes([s[at], s[at + 1], s[at + 2], s[at + 3]])
 }
 
-fn params(s: &[u8]) -> Params
-    requires { length s.now ≡ 48 }
-    ensures { result ≡ params_of s.now }
-{
-    Params {
-        PortMode: s[2],
-        ValidationBackup: s[3],
-        IQBehavior: s[4],
-        PortCycleTime: s[5],
-        VendorID: unsigned16(s, 6),
-        DeviceID: unsigned32(s, 8),
-        InputDataLength: s[12],
-        OutputDataLength: s[13],
-        FSCP_Authenticity1: unsigned32(s, 14),
-        FSCP_Authenticity2: unsigned32(s, 18),
-        FSP_Port: s[22],
-        FSP_ProtVersion: s[25],
-        FSP_ProtMode: s[26],
-        FSP_WatchdogTime: unsigned16(s, 27),
-        FSP_TechParCRC: unsigned32(s, 31),
-        IO_DescVersion: s[37],
-        SPDUInLength: s[38],
-        TotalOfInBits: s[39],
-        TotalOfInOctets: s[40],
-        TotalOfInInt16: s[41],
-        TotalOfInInt32: s[42],
-        SPDUOutLength: s[43],
-        TotalOfOutBits: s[44],
-        TotalOfOutOctets: s[45],
-        TotalOfOutInt16: s[46],
-        TotalOfOutInt32: s[47],
+impl Params {
+    fn read(s: &[u8; 48]) -> Params
+        ensures { result ≡ params_of s.now }
+    {
+        Params {
+            PortMode: s[2],
+            ValidationBackup: s[3],
+            IQBehavior: s[4],
+            PortCycleTime: s[5],
+            VendorID: unsigned16(s, 6),
+            DeviceID: unsigned32(s, 8),
+            InputDataLength: s[12],
+            OutputDataLength: s[13],
+            FSCP_Authenticity1: unsigned32(s, 14),
+            FSCP_Authenticity2: unsigned32(s, 18),
+            FSP_Port: s[22],
+            FSP_ProtVersion: s[25],
+            FSP_ProtMode: s[26],
+            FSP_WatchdogTime: unsigned16(s, 27),
+            FSP_TechParCRC: unsigned32(s, 31),
+            IO_DescVersion: s[37],
+            SPDUInLength: s[38],
+            TotalOfInBits: s[39],
+            TotalOfInOctets: s[40],
+            TotalOfInInt16: s[41],
+            TotalOfInInt32: s[42],
+            SPDUOutLength: s[43],
+            TotalOfOutBits: s[44],
+            TotalOfOutOctets: s[45],
+            TotalOfOutInt16: s[46],
+            TotalOfOutInt32: s[47],
+        }
     }
 }
 
-fn signatures(s: &[u8]) -> Signatures
-    requires { length s.now ≡ 48 }
-    ensures { result ≡ carried s.now }
-{
-    Signatures {
-        FSP_AuthentCRC: unsigned16(s, 23),
-        FSP_IO_StructCRC: unsigned16(s, 29),
-        FSP_ProtParCRC: unsigned16(s, 35),
+impl Signatures {
+    fn carried(s: &[u8; 48]) -> Signatures
+        ensures { result ≡ table22.carried s.now }
+    {
+        Signatures {
+            FSP_AuthentCRC: unsigned16(s, 23),
+            FSP_IO_StructCRC: unsigned16(s, 29),
+            FSP_ProtParCRC: unsigned16(s, 35),
+        }
+    }
+
+    // The signatures that the block should carry.
+    pub(crate) fn computed(signing: &Signing, s: &[u8; 48]) -> Signatures
+        ensures { result ≡ table22.computed (parameters_by signing.now.engine signing.now.short.now) s.now }
+    {
+        Signatures {
+            FSP_AuthentCRC: signing.sign::<u16>(0, &s[14..23]),
+            FSP_IO_StructCRC: signing.sign::<u16>(0, &s[37..48]),
+            FSP_ProtParCRC: signing.sign::<u16>(0, &s[25..35]),
+        }
     }
 }
 
-pub(crate) fn block(s: &[u8]) -> Block
-    requires { length s.now ≡ 48 }
-    ensures { result ≡ block_of s.now }
-{
-    Block {
-        ArgBlockID: unsigned16(s, 0),
-        params: params(s),
-        signatures: signatures(s),
-    }
-}
-
-// The signatures that the block should carry.
-pub(crate) fn computed(engine: Engine, short: &[u16; 256], s: &[u8]) -> Signatures
-    requires { length s.now ≡ 48 }
-    ensures { result ≡ table22.computed (parameters_by engine short.now) s.now }
-{
-    Signatures {
-        FSP_AuthentCRC: sign_with(engine, short, 0, &s[14..23]),
-        FSP_IO_StructCRC: sign_with(engine, short, 0, &s[37..48]),
-        FSP_ProtParCRC: sign_with(engine, short, 0, &s[25..35]),
+impl Block {
+    pub(crate) fn read(s: &[u8; 48]) -> Block
+        ensures { result ≡ block_of s.now }
+    {
+        Block {
+            ArgBlockID: unsigned16(s, 0),
+            params: Params::read(s),
+            signatures: Signatures::carried(s),
+        }
     }
 }

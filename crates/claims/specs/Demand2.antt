@@ -6,8 +6,7 @@
 -- specs/Places.antt, Built.antt and Signature.antt. Each function's contract is an equation with these. That the definitions copy 000 is for a reader to
 -- compare; docs/DEFINITIONS.md has what holds each of them besides.
 use Rattle.std.specs.Prelude.{ℕ, ◌<◌, ◌≤◌, ◌^◌, ◌≡◌, Bool, true, false, cond, ◌&&◌, List, [], ◌∷◌, leb, length, take, get_or, replicate}
-use Rattle.answer.specs.declared.Answer.TheVariants.{Taken}
-use Rattle.answer.specs.Answers.{is_taken}
+use Rattle.answer.specs.Answers.{Taken, is_taken}
 use Rattle.answer.specs.Rules.{answer_by}
 use Rattle.ranges.specs.Fields.{outside}
 use Rattle.block.specs.declared.Params.{Params}
@@ -23,14 +22,14 @@ use Rattle.scl.specs.declared.Mark.TheVariants.{Fresh}
 use Rattle.fs_master.specs.History as masters
 use Rattle.fs_device.specs.History as devices
 use Rattle.histogram.specs.Samples.{bin_count, Within, in_bin, limit, sum_of, lowest_of, highest_of}
-use Rattle.histogram.specs.Trends.{Shows}
+use Rattle.histogram.specs.Trends.{Shows, point_in}
 use Rattle.samples.specs.Samples.{time_of, is_sample, samples}
 use Rattle.bench.specs.declared.Port.{Port}
 use Rattle.bench.specs.Methods.{annex_d}
 use Rattle.bench.specs.Ports.{new_port, port_at, step_of}
 use Rattle.bench.specs.Calls.{response_rules, request_rules, clock_rules, operator_rules, response_at, request_at, clock_at, operator_at}
 use Rattle.bench.specs.Images.{compose_answer, composed, build_answer, response_out}
-use Rattle.bench.specs.Shown.{trend_of, bins_of}
+use Rattle.bench.specs.Shown.{trend_of, bins_of, told_bins}
 use Rattle.bench.specs.History.{Call, history, never, since, since_block, ConfiguredLengths, octets_handed_on, octets_in, octets_out, response_admitted, request_admitted}
 
 -- the samples that count, "up to the freeze": the first 4,294,967,295
@@ -68,13 +67,13 @@ pub record PortHolds (q : ℕ) (p : Port) (at : ℕ) (params : Params) (past : L
   -- 01: a sample's "elapsed t at most W"
   pub at_most_w : Within params.FSP_WatchdogTime (samples at params.FSP_WatchdogTime past)
   -- "bins hold exactly the responses that 01 counts since its last accepted block": bin i has as many as there are samples of bin i
-  pub bins : (i : ℕ) → i < bin_count → get_or (bins_of q p).bins i 0 ≡ in_bin params.FSP_WatchdogTime i (counted at params past)
-  pub total : (bins_of q p).total ≡ length (counted at params past)
+  pub bins : (i : ℕ) → i < bin_count → get_or (told_bins (bins_of q p)).bins i 0 ≡ in_bin params.FSP_WatchdogTime i (counted at params past)
+  pub total : (told_bins (bins_of q p)).total ≡ length (counted at params past)
   -- "up to the freeze", which is told
-  pub frozen : (bins_of q p).frozen ≡ leb limit (length (samples at params.FSP_WatchdogTime past))
+  pub frozen : (told_bins (bins_of q p)).frozen ≡ leb limit (length (samples at params.FSP_WatchdogTime past))
   -- 01: the trend point, the exact sum over the exact total, rounded once, with the lowest and the highest sample
   pub trend : 0 < length (samples at params.FSP_WatchdogTime past)
-      → let s = counted at params past in Shows (sum_of s) (length s) (lowest_of s) (highest_of s) (trend_of q p).point
+      → let s = counted at params past in Shows (sum_of s) (length s) (lowest_of s) (highest_of s) (point_in (trend_of q p))
 
 -- What is sent, at any port where the call is answered TAKEN: read at the other end of the same parameters it is what the machine holds
 pub record Sends (q : ℕ) (p : Port) : Type 0 where

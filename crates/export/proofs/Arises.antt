@@ -3,8 +3,13 @@ use mathlib.Core.Path.{◌≡◌, refl}
 use mathlib.Core.Bool.{true, false}
 use mathlib.Core.List.{[], ◌∷◌, map}
 use lib.ListN.{replicate}
-use Rattle.std.specs.Prelude.{Some}
-use Rattle.answer.specs.declared.Answer.TheVariants.{FieldRange, Signature, Buffer, NotRunning, NoSamples}
+use Rattle.std.specs.Prelude.{Ok, Err, Some, None}
+use Rattle.answer.specs.declared.Refusal.TheVariants.{FieldRange, Signature, Buffer, NotRunning, NoSamples}
+use Rattle.block.specs.Rules.{no_params}
+use Rattle.histogram.specs.Samples.{limit}
+use Rattle.histogram.specs.Counted.{frozen_of}
+use Rattle.histogram.specs.Trends.{zero}
+use Rattle.bench.specs.Ports.{new_port}
 use Rattle.signature.specs.declared.Engine.TheVariants as engines
 use Rattle.block.specs.declared.Params.{Params}
 use Rattle.scl.specs.declared.Mark.TheVariants.{Fresh, GoesOn, Safe}
@@ -27,9 +32,10 @@ use Rattle.export.specs.Benches.{reply_told, split_told, end_of, handed_told, tr
 
 -- of any parameters, machines, point and state
 pub record Told (p : Params) (m : Master) (d : Device) (t : TrendPoint) (st : State) : Type 0 where
-  pub block : told_of (record { answer = Signature 29; params = p }) ≡ record { number = 6; offset = 29; params = p; unused = replicate 2 0 }
+  pub block : told_of (Ok p) ≡ record { number = 0; offset = 0; params = p; unused = replicate 2 0 }
+  pub block_refused : told_of (Err (Signature 29)) ≡ record { number = 6; offset = 29; params = no_params; unused = replicate 2 0 }
   pub reply :
-      reply_told (record { answer = FieldRange 38; master = Safe; device = Fresh; master_releases = false; device_releases = true })
+      reply_told (record { answer = Err (FieldRange 38); master = Safe; device = Fresh; master_releases = false; device_releases = true })
       ≡ record { number = 5; offset = 38; master = 2; device = 0; master_releases = false; device_releases = true; unused = replicate 2 0 }
   pub master :
       master_told (record { master = m; watchdog = Some row38.T14; arrival = Some row38.T12; check = Some check.Port; old = true; passed = false; sent = 9; mark = GoesOn })
@@ -39,32 +45,43 @@ pub record Told (p : Params) (m : Master) (d : Device) (t : TrendPoint) (st : St
       ≡ record { device = d; watchdog = 30; arrival = 29; check = 3; old = false; passed = true; mark = 2; unused = replicate 2 0 }
   pub split : split_told 1 running (replicate 6 0) ≡ record { number = 0; spdu = 6; other = 0; unused = replicate 7 0 }
   pub split_refused : split_told 1 running [] ≡ record { number = 7; spdu = 0; other = 0; unused = replicate 7 0 }
-  pub handed : handed_told (record { answer = Buffer; octets = 3 }) ≡ record { number = 7; octets = 3; unused = replicate 7 0 }
-  pub trend : trend_told (record { answer = NoSamples; point = t }) ≡ record { number = 11; point = t; unused = replicate 7 0 }
+  pub handed : handed_told (Ok 3) ≡ record { number = 0; octets = 3; unused = replicate 7 0 }
+  pub handed_refused : handed_told (Err Buffer) ≡ record { number = 7; octets = 0; unused = replicate 7 0 }
+  pub trend : trend_told (Ok t) ≡ record { number = 0; point = t; unused = replicate 7 0 }
+  pub trend_refused : trend_told (Err NoSamples) ≡ record { number = 11; point = record { mean = zero; lowest = zero; highest = zero }; unused = replicate 7 0 }
   pub bins :
-      bins_told (record { answer = NotRunning; bins = 1 ∷ []; total = 2; frozen = true })
-      ≡ record { number = 9; bins = 1 ∷ []; total = 2; frozen = true; unused = replicate 2 0 }
-  pub shown_master : master_shown (record { answer = NotRunning; master = m }) ≡ record { number = 9; master = m; unused = replicate 3 0 }
-  pub shown_device : device_shown (record { answer = NotRunning; device = d }) ≡ record { number = 9; device = d; unused = replicate 3 0 }
+      bins_told (Ok (record { bins = 1 ∷ []; total = 2; frozen = true }))
+      ≡ record { number = 0; bins = 1 ∷ []; total = 2; frozen = true; unused = replicate 2 0 }
+  pub bins_refused : bins_told (Err NotRunning) ≡ record { number = 9; bins = replicate 32 0; total = 0; frozen = false; unused = replicate 2 0 }
+  pub shown_master : master_shown (Ok m) ≡ record { number = 0; master = m; unused = replicate 3 0 }
+  pub master_refused : master_shown (Err NotRunning) ≡ record { number = 9; master = new_port.live.master; unused = replicate 3 0 }
+  pub shown_device : device_shown (Ok d) ≡ record { number = 0; device = d; unused = replicate 3 0 }
+  pub device_refused : device_shown (Err NotRunning) ≡ record { number = 9; device = new_port.live.device; unused = replicate 3 0 }
   pub fed : fed_told (record { state = st; used = 5; written = 6; stop = Some Cut }) ≡ record { state = st; used = 5; written = 6; stop = 2; unused = replicate 7 0 }
   pub stops : map stop_number_of (None ∷ Some Bad ∷ Some Cut ∷ Some End ∷ []) ≡ 0 ∷ 1 ∷ 2 ∷ 3 ∷ []
   pub engines : map engine_of (false ∷ true ∷ []) ≡ engines.Table ∷ engines.Shift ∷ []
   pub ends : map end_of (false ∷ true ∷ []) ≡ end.Master ∷ end.Device ∷ []
 
 pub told : (p : Params) (m : Master) (d : Device) (t : TrendPoint) (st : State) → Told p m d t st
-unfolding split_answer spdu_part other_part
+unfolding split_answer spdu_part other_part new_port frozen_of limit
 told p m d t st = record {
   block = refl;
+  block_refused = refl;
   reply = refl;
   master = refl;
   device = refl;
   split = refl;
   split_refused = refl;
   handed = refl;
+  handed_refused = refl;
   trend = refl;
+  trend_refused = refl;
   bins = refl;
+  bins_refused = refl;
   shown_master = refl;
+  master_refused = refl;
   shown_device = refl;
+  device_refused = refl;
   fed = refl;
   stops = refl;
   engines = refl;

@@ -1,11 +1,11 @@
 -- "A refusal changes no state": where the number told is not 0, the bench told is the bench given. Assumes nothing.
 use Prim.Native.Nat.{ℕ}
 use native.Mathlib.Omega.{arith}
-use mathlib.Core.Path.{◌≡◌}
+use mathlib.Core.Path.{◌≡◌, refl}
 use mathlib.Core.Bool.{Bool, false}
 use mathlib.Core.List.{List, []}
-use borrow.Author.Tests.{ne_eqb}
-use Rattle.answer.specs.Answers.{number_of, is_taken}
+use Rattle.std.specs.Prelude.{Ok, Err}
+use Rattle.answer.specs.Answers.{Answer, number_of, is_taken}
 use Rattle.bench.specs.declared.Bench.{Bench}
 use Rattle.bench.specs.declared.BenchAfter.{BenchAfter}
 use Rattle.bench.specs.Methods.{annex_d}
@@ -19,8 +19,12 @@ use Rattle.export.specs.Benches.{bench_told}
 abbrev pub KeptIfRefused : Bench → BenchAfter → Type 0
 KeptIfRefused b a = ((bench_told a).reply.number ≡ 0 → ⊥) → (bench_told a).bench ≡ b
 
+untaken : (x : Answer) → (number_of x ≡ 0 → ⊥) → is_taken x ≡ false
+untaken (Ok t) n = absurd (n refl)
+untaken (Err r) n = refl
+
 kept : (b : Bench) (a : BenchAfter) → (is_taken a.reply.answer ≡ false → a.bench ≡ b) → KeptIfRefused b a
-kept b a same refused = same (ne_eqb (number_of a.reply.answer) 0 refused)
+kept b a same refused = same (untaken a.reply.answer refused)
 
 module _ (b : Bench) (port at : ℕ) where
   pub parameters_refused : (octets : List ℕ) → KeptIfRefused b (calls.set_parameters annex_d b port at octets)

@@ -12,7 +12,8 @@ ghost use Rattle.export.specs.Benches as told;
 
 use crate::histograms::NumberedTrend;
 use crate::signatures::engine_of;
-use bench::{BIN_COUNT, Bench, BenchAfter, Bins, DeviceShown, End, Handed, MasterShown, Reply};
+use answer::Refusal;
+use bench::{BIN_COUNT, Bench, BenchAfter, Bins, End, Reply};
 use fs_device::Device;
 use fs_master::Master;
 use scl::Mark;
@@ -106,53 +107,54 @@ impl From<BenchAfter> for BenchTold {
     }
 }
 
-impl From<Handed> for HandedTold {
+impl From<Result<usize, Refusal>> for HandedTold {
     ghost from_gives = { λ h t. t ≡ told.handed_told h };
 
-    fn from(handed: Handed) -> HandedTold {
+    fn from(handed: Result<usize, Refusal>) -> HandedTold {
         HandedTold {
-            number: answer::number(handed.answer),
-            octets: handed.octets,
+            number: answer::number(handed),
+            octets: handed.unwrap_or(0),
             unused: [0; 7],
         }
     }
 }
 
-impl From<Bins> for BinsTold {
+impl From<Result<Bins, Refusal>> for BinsTold {
     ghost from_gives = { λ b t. t ≡ told.bins_told b };
 
-    fn from(shown: Bins) -> BinsTold {
+    fn from(shown: Result<Bins, Refusal>) -> BinsTold {
+        let told = bench::bins_told(shown);
         // By a variable: the check doesn't cover a field that is an array and is copied straight.
-        let bins = shown.bins;
+        let bins = told.bins;
         BinsTold {
-            number: answer::number(shown.answer),
+            number: answer::number(shown),
             bins,
-            total: shown.total,
-            frozen: shown.frozen,
+            total: told.total,
+            frozen: told.frozen,
             unused: [0; 2],
         }
     }
 }
 
-impl From<MasterShown> for MasterTold {
+impl From<Result<Master, Refusal>> for MasterTold {
     ghost from_gives = { λ m t. t ≡ told.master_shown m };
 
-    fn from(shown: MasterShown) -> MasterTold {
+    fn from(shown: Result<Master, Refusal>) -> MasterTold {
         MasterTold {
-            number: answer::number(shown.answer),
-            master: shown.master,
+            number: answer::number(shown),
+            master: bench::master_told(shown),
             unused: [0; 3],
         }
     }
 }
 
-impl From<DeviceShown> for DeviceTold {
+impl From<Result<Device, Refusal>> for DeviceTold {
     ghost from_gives = { λ d t. t ≡ told.device_shown d };
 
-    fn from(shown: DeviceShown) -> DeviceTold {
+    fn from(shown: Result<Device, Refusal>) -> DeviceTold {
         DeviceTold {
-            number: answer::number(shown.answer),
-            device: shown.device,
+            number: answer::number(shown),
+            device: bench::device_told(shown),
             unused: [0; 3],
         }
     }

@@ -4,7 +4,8 @@ ghost use Rattle.block.specs.Rules.{judged};
 ghost use Rattle.export.specs.Told.{told_of};
 
 use crate::signatures::engine_of;
-use block::{Judged, Params};
+use answer::Refusal;
+use block::Params;
 
 // A block's answer in numbers, its offset, and the parameters, which are zeros in a refusal.
 #[repr(C)]
@@ -16,14 +17,14 @@ pub struct BlockAnswer {
     pub unused: [u8; 2],
 }
 
-impl From<Judged> for BlockAnswer {
+impl From<Result<Params, Refusal>> for BlockAnswer {
     ghost from_gives = { λ j t. t ≡ told_of j };
 
-    fn from(judged: Judged) -> BlockAnswer {
+    fn from(judged: Result<Params, Refusal>) -> BlockAnswer {
         BlockAnswer {
-            number: answer::number(judged.answer),
-            offset: answer::offset(judged.answer),
-            params: judged.params,
+            number: answer::number(judged),
+            offset: answer::offset(judged),
+            params: judged.unwrap_or(block::no_params()),
             unused: [0; 2],
         }
     }

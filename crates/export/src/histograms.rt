@@ -3,10 +3,11 @@ ghost use Rattle.std.specs.Prelude.{◌≡◌, replicate};
 ghost use Rattle.answer.specs.Answers.{number_of};
 ghost use Rattle.histogram.specs.Samples.{bin_of};
 ghost use Rattle.histogram.specs.Counted.{frozen_of, cleared_of, counted_of};
-ghost use Rattle.histogram.specs.Trends.{trend_of};
+ghost use Rattle.histogram.specs.Trends.{trend_of, point_in};
 ghost use Rattle.export.specs.Benches as told;
 
-use histogram::{Histogram, Trend, TrendPoint};
+use answer::Refusal;
+use histogram::{Histogram, TrendPoint};
 
 // A trend point beside its answer number.
 #[repr(C)]
@@ -17,13 +18,13 @@ pub struct NumberedTrend {
     pub unused: [u8; 7],
 }
 
-impl From<Trend> for NumberedTrend {
+impl From<Result<TrendPoint, Refusal>> for NumberedTrend {
     ghost from_gives = { λ t n. n ≡ told.trend_told t };
 
-    fn from(trend: Trend) -> NumberedTrend {
+    fn from(trend: Result<TrendPoint, Refusal>) -> NumberedTrend {
         NumberedTrend {
-            number: answer::number(trend.answer),
-            point: trend.point,
+            number: answer::number(trend),
+            point: histogram::point_told(trend),
             unused: [0; 7],
         }
     }
@@ -59,7 +60,7 @@ pub extern "C" fn whakelouna_counted(h: Histogram, w: u16, t: u16) -> Histogram
 
 #[unsafe(no_mangle)]
 pub extern "C" fn whakelouna_trend_of(h: Histogram) -> NumberedTrend
-    ensures { result ≡ record { number = number_of (trend_of h).answer; point = (trend_of h).point; unused = replicate 7 0 } }
+    ensures { result ≡ record { number = number_of (trend_of h); point = point_in (trend_of h); unused = replicate 7 0 } }
 {
     NumberedTrend::from(histogram::trend_of(h))
 }

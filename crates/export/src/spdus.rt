@@ -12,6 +12,18 @@ use scl::{Request, Response};
 use signature::Signing;
 use spdu::{Control, Status};
 
+fn signing_of<'a>(shift: bool, short: &'a [u16; 256], long: &'a [u32; 16]) -> Signing<'a>
+    ensures engine { result.engine ≡ engine_of shift }
+    ensures short { result.short.now ≡ short.now }
+    ensures long { result.long.now ≡ long.now }
+{
+    Signing {
+        engine: engine_of(shift),
+        short,
+        long,
+    }
+}
+
 #[unsafe(no_mangle)]
 pub extern "C" fn whakelouna_read_response_by(
     shift: bool,
@@ -22,16 +34,7 @@ pub extern "C" fn whakelouna_read_response_by(
 ) -> Response
     ensures { result ≡ response_by (by_engine (engine_of shift) short.now long.now) p octets.now }
 {
-    let engine = engine_of(shift);
-    spdu::read_response_by(
-        &Signing {
-            engine,
-            short,
-            long,
-        },
-        p,
-        octets,
-    )
+    spdu::read_response_by(&signing_of(shift, short, long), p, octets)
 }
 
 #[unsafe(no_mangle)]
@@ -44,16 +47,7 @@ pub extern "C" fn whakelouna_read_request_by(
 ) -> Request
     ensures { result ≡ request_by (by_engine (engine_of shift) short.now long.now) p octets.now }
 {
-    let engine = engine_of(shift);
-    spdu::read_request_by(
-        &Signing {
-            engine,
-            short,
-            long,
-        },
-        p,
-        octets,
-    )
+    spdu::read_request_by(&signing_of(shift, short, long), p, octets)
 }
 
 // Writes the FS-Master's SPDU and returns the answer's number.
@@ -72,13 +66,8 @@ pub extern "C" fn whakelouna_build_request_by(
     ensures value { result ≡ number_of (built_as (buffers_hold p.FSP_ProtMode p.SPDUOutLength (length process.now) (length out.old))) }
     ensures out_after { out.new ≡ request_built (by_engine (engine_of shift) short.now long.now) p MCount setSD ChFAckReq process.now out.old }
 {
-    let engine = engine_of(shift);
     answer::number(spdu::build_request_by(
-        &Signing {
-            engine,
-            short,
-            long,
-        },
+        &signing_of(shift, short, long),
         p,
         Control {
             MCount,
@@ -108,13 +97,8 @@ pub extern "C" fn whakelouna_build_response_by(
     ensures value { result ≡ number_of (built_as (buffers_hold p.FSP_ProtMode p.SPDUInLength (length process.now) (length out.old))) }
     ensures out_after { out.new ≡ response_built (by_engine (engine_of shift) short.now long.now) p responded DCount_i SDset DCommErr DTimeout process.now out.old }
 {
-    let engine = engine_of(shift);
     answer::number(spdu::build_response_by(
-        &Signing {
-            engine,
-            short,
-            long,
-        },
+        &signing_of(shift, short, long),
         p,
         responded,
         Status {

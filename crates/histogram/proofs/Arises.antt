@@ -4,11 +4,13 @@ use mathlib.Core.List.{foldr}
 use lib.Dec.{eqb-zero-suc}
 use lib.Ieee.Exact.{HasValue}
 use lib.ListN.{length-replicate, get_or-replicate}
-use Rattle.answer.specs.declared.Answer.TheVariants.{Taken, NoSamples}
+use Rattle.std.specs.Prelude.{Err}
+use Rattle.answer.specs.declared.Refusal.TheVariants.{NoSamples}
+use Rattle.answer.specs.Answers.{Taken, without_value}
 use Rattle.histogram.specs.declared.Histogram.{Histogram}
 use Rattle.histogram.specs.Samples.{bin_count, bin_of, Within, none, more, in_bin, lowest_of, limit, Counts, CountsToLimit, Fits}
 use Rattle.histogram.specs.Counted.{frozen_of, cleared_of, with_sample, counted_of, counted_all}
-use Rattle.histogram.specs.Trends.{point_of, trend_of, Converted, Shows}
+use Rattle.histogram.specs.Trends.{point_of, trend_of, point_in, Converted, Shows}
 use Rattle.histogram.proofs.Samples.{bin_below}
 use Rattle.histogram.proofs.Counting.{cleared_holds, counted-holds, all-counted, nothing_wraps, frozen_mark}
 use Rattle.histogram.proofs.Trends.{converted, shows, answered, trend_of_samples}
@@ -42,17 +44,17 @@ pub shows_met : Shows of_three.sum of_three.total of_three.lowest of_three.highe
 unfolding limit
 shows_met = shows of_three fits_met (rw all_counted_met.total (omega arith))
 
-pub trend_met : Shows 106 3 3 99 (trend_of of_three).point
+pub trend_met : Shows 106 3 3 99 (point_in (trend_of of_three))
 unfolding limit
 trend_met = trend_of_samples three all_counted_met (omega arith) within_met (omega arith)
 
 -- the mark is not set, and there is a sample; of none the answer is NO_SAMPLES
-pub few : (frozen_of of_three ≡ false) × (((trend_of of_three).answer ≡ Taken) × ((trend_of cleared_of).answer ≡ NoSamples))
+pub few : (frozen_of of_three ≡ false) × ((without_value (trend_of of_three) ≡ Taken) × (without_value (trend_of cleared_of) ≡ Err NoSamples))
 unfolding limit
 few = (frozen_mark three all_counted_met, (answered three all_counted_met, answered [] (cleared_holds 99)))
 
 -- R27: on that refusal the trend point is three zeros
-pub none_shown : HasValue (trend_of cleared_of).point.mean false 0 1 × HasValue (trend_of cleared_of).point.lowest false 0 1 × HasValue (trend_of cleared_of).point.highest false 0 1
+pub none_shown : HasValue (point_in (trend_of cleared_of)).mean false 0 1 × HasValue (point_in (trend_of cleared_of)).lowest false 0 1 × HasValue (point_in (trend_of cleared_of)).highest false 0 1
 unfolding trend_of
 none_shown = ((refl, refl), (refl, refl), (refl, refl))
 

@@ -2,12 +2,14 @@
 use Rattle.std.proofs.Common.{◌≡◌, ℕ, ◌<◌, ◌≤◌, min, Bool, true, false, cond, eqb, List, length, take, refl, ◌∙◌, arith, length-take, eq-eqb, ne_eqb, eqb-true}
 use borrow.Author.Tests.{eqb-false}
 use lib.Ieee.{binary32, binary64}
-use Rattle.answer.specs.declared.Answer.TheVariants.{Taken, NoSamples}
+use Rattle.std.specs.Prelude.{Err}
+use Rattle.answer.specs.declared.Refusal.TheVariants.{NoSamples}
+use Rattle.answer.specs.Answers.{Taken, without_value}
 use Rattle.nearest.proofs.Whole.{exact, rounded_once}
 use Rattle.nearest.proofs.Closest.{quotient_nearest}
 use Rattle.histogram.specs.declared.Histogram.{Histogram}
 use Rattle.histogram.specs.Samples.{Within, limit, CountsToLimit, Fits, sum_of, lowest_of, highest_of}
-use Rattle.histogram.specs.Trends.{point_of, trend_of, Converted, Shows}
+use Rattle.histogram.specs.Trends.{point_of, trend_of, point_in, Converted, Shows}
 use Rattle.histogram.proofs.Counting.{nothing_wraps}
 
 module _ (h : Histogram) (fits : Fits h) where
@@ -42,16 +44,16 @@ module _ {w : ℕ} (samples : List ℕ) {h : Histogram} (holds : CountsToLimit w
   total_is = holds.total ∙ length-take limit samples
 
   -- "NO_SAMPLES: a trend point is asked for with no sample"
-  pub answered : (trend_of h).answer ≡ cond (eqb (length samples) 0) NoSamples Taken
+  pub answered : without_value (trend_of h) ≡ cond (eqb (length samples) 0) (Err NoSamples) Taken
   unfolding trend_of
   answered = go (eqb (length samples) 0) refl
     where
-      go : (b : Bool) → eqb (length samples) 0 ≡ b → (trend_of h).answer ≡ cond b NoSamples Taken
+      go : (b : Bool) → eqb (length samples) 0 ≡ b → without_value (trend_of h) ≡ cond b (Err NoSamples) Taken
       go true e = simp (eq-eqb h.total 0 (omega (arith, eqb-true (length samples) 0 e, total_is)))
       go false e = simp (ne_eqb h.total 0 (λ z. omega (arith, eqb-false (length samples) 0 e, total_is, limit_above)))
 
   pub trend_of_samples : w ≤ 65535 → Within w samples → 0 < length samples
-      → Shows (sum_of (take limit samples)) (length (take limit samples)) (lowest_of (take limit samples)) (highest_of (take limit samples)) (trend_of h).point
+      → Shows (sum_of (take limit samples)) (length (take limit samples)) (lowest_of (take limit samples)) (highest_of (take limit samples)) (point_in (trend_of h))
   unfolding trend_of
   trend_of_samples small within some =
       let above : 0 < h.total = omega (arith, total_is, limit_above) in

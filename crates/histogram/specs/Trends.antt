@@ -1,13 +1,13 @@
 -- Document 01, "The histogram and the trend": the trend point. Assumes nothing.
-use Rattle.std.specs.Prelude.{◌≡◌, ℕ, false, cond, pos, ◌==◌, Float}
+use Rattle.std.specs.Prelude.{◌≡◌, ℕ, false, cond, pos, ◌==◌, Float, Result, Ok, Err}
 use Rattle.std.specs.Float.{fin, binary32, binary64}
 use Rattle.std.specs.Float.Ieee.{div, of_int, round}
 use Rattle.std.specs.Float.Ieee.Exact.{HasValue}
-use Rattle.answer.specs.declared.Answer.TheVariants.{Taken, NoSamples}
+use Rattle.answer.specs.declared.Refusal.{Refusal}
+use Rattle.answer.specs.declared.Refusal.TheVariants.{NoSamples}
 use Rattle.nearest.specs.Nearest.{Exact, Nearest}
 use Rattle.histogram.specs.declared.Histogram.{Histogram}
 use Rattle.histogram.specs.declared.TrendPoint.{TrendPoint}
-use Rattle.histogram.specs.declared.Trend.{Trend}
 
 -- "The mean is the exact sum divided by the exact total": two conversions and one division, as Rust has them
 abbrev pub mean_of : ℕ → ℕ → Float
@@ -26,10 +26,13 @@ abbrev pub zero : Float
 zero = fin false 0 (pos 0)
 
 -- "NO_SAMPLES: a trend point is asked for with no sample"
-unfoldable pub trend_of : Histogram → Trend
-trend_of h =
-    cond (h.total == 0) (record { answer = NoSamples; point = record { mean = zero; lowest = zero; highest = zero } })
-    (record { answer = Taken; point = point_of h })
+unfoldable pub trend_of : Histogram → Result TrendPoint Refusal
+trend_of h = cond (h.total == 0) (Err NoSamples) (Ok (point_of h))
+
+-- the point that is told: "on refusal a trend point is three zeros"
+abbrev pub point_in : Result TrendPoint Refusal → TrendPoint
+point_in (Ok p) = p
+point_in (Err r) = record { mean = zero; lowest = zero; highest = zero }
 
 -- "so both conversions are exact", and so are those of the lowest and the highest sample
 pub record Converted (h : Histogram) : Type 0 where

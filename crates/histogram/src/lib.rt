@@ -4,9 +4,9 @@
 ghost use Rattle.std.specs.Prelude.{◌≡◌, if◌then◌else◌, ◌==◌};
 ghost use Rattle.histogram.specs.Samples.{bin_of, limit};
 ghost use Rattle.histogram.specs.Counted.{frozen_of, cleared_of, totals_of, with_bins, raised_if, totalled_of, counted_of};
-ghost use Rattle.histogram.specs.Trends.{mean_of, point_of, trend_of};
+ghost use Rattle.histogram.specs.Trends.{mean_of, point_of, point_in, trend_of};
 
-use answer::Answer;
+use answer::{Refusal, refuse_if};
 
 pub const BIN_COUNT: usize = 32;
 
@@ -42,13 +42,6 @@ pub struct TrendPoint {
     pub mean: f64,
     pub lowest: f32,
     pub highest: f32,
-}
-
-// A trend point beside its answer.
-#[derive(Clone, Copy)]
-pub struct Trend {
-    pub answer: Answer,
-    pub point: TrendPoint,
 }
 
 // The bin of the time t at the watchdog time w: below BIN_COUNT where t is at most w.
@@ -177,24 +170,25 @@ fn point(h: Histogram) -> TrendPoint
     }
 }
 
-// NO_SAMPLES and three zeros where there is no sample.
+// NO_SAMPLES where there is no sample.
 #[tactic(auto, unfolding(crate::specs::Trends::trend_of))]
-pub fn trend_of(h: Histogram) -> Trend
+pub fn trend_of(h: Histogram) -> Result<TrendPoint, Refusal>
     ensures { result ≡ trend_of h }
 {
-    if h.total == 0 {
-        Trend {
-            answer: Answer::NoSamples,
-            point: TrendPoint {
-                mean: 0.0,
-                lowest: 0.0,
-                highest: 0.0,
-            },
-        }
-    } else {
-        Trend {
-            answer: Answer::Taken,
-            point: point(h),
-        }
+    refuse_if(h.total == 0, Refusal::NoSamples)?;
+    Ok(point(h))
+}
+
+// The point that is told, also of a refusal: three zeros.
+pub fn point_told(trend: Result<TrendPoint, Refusal>) -> TrendPoint
+    ensures { result ≡ point_in trend }
+{
+    match trend {
+        Ok(point) => point,
+        Err(_) => TrendPoint {
+            mean: 0.0,
+            lowest: 0.0,
+            highest: 0.0,
+        },
     }
 }

@@ -2,8 +2,7 @@
 use mathlib.Core.Path.{◌≡◌, refl}
 use mathlib.Core.List.{List, [], ◌∷◌, ◌++◌, map}
 use Prim.Native.Nat.{ℕ}
-use Rattle.answer.specs.declared.Answer.TheVariants.{Taken}
-use Rattle.answer.specs.Answers.{number_of, offset_of}
+use Rattle.answer.specs.Answers.{Taken, refusal_offset, number_of, offset_of}
 use Rattle.answer.specs.Rules.{Rule, rule, answer_by}
 use Rattle.ranges.specs.Rules.{mode_rules, device_rules, protocol_rules, description_rules, input_rules, output_rules}
 
@@ -77,7 +76,7 @@ each_end = refl
 
 abbrev offsets_in : List Rule → List ℕ
 offsets_in [] = []
-offsets_in (rule broken refusal ∷ rules) = offset_of refusal ∷ offsets_in rules
+offsets_in (rule broken refusal ∷ rules) = refusal_offset refusal ∷ offsets_in rules
 
 -- "the lowest such offset is returned": the offsets are looked at in their order, whatever stands in the block
 pub lowest_first : (x : ℕ)

@@ -4,8 +4,8 @@ use mathlib.Core.Bool.{Bool, true, false, ◌||◌}
 use Prim.Native.Nat.{ℕ, ◌≤◌, ◌<◌}
 use borrow.Author.Tests.{le-leb, lt-leb}
 use lib.Dec.{eqb}
-use Rattle.answer.specs.declared.Answer.{Answer}
-use Rattle.answer.specs.declared.Answer.TheVariants.{PortMode, NoScl}
+use Rattle.answer.specs.declared.Refusal.TheVariants.{PortMode, NoScl}
+use Rattle.answer.specs.Answers.{Answer}
 use Rattle.answer.specs.Rules.{refused, answer_by}
 use Rattle.answer.proofs.Exact.{refused_kept}
 use Rattle.ranges.specs.Fields.{inside}

@@ -1,7 +1,8 @@
 -- 01, "Answer numbers" (3 and 4) and "The parameter block": the ranges of the block's fields in the order of their offsets. Assumes nothing.
 use Rattle.std.specs.Prelude.{ℕ, ◌||◌, List, [], ◌∷◌, eqb}
-use Rattle.answer.specs.declared.Answer.TheVariants.{PortMode, NoScl, FieldRange}
+use Rattle.answer.specs.declared.Refusal.TheVariants.{PortMode, NoScl, FieldRange}
 use Rattle.answer.specs.Rules.{Rule, rule}
+use Rattle.ranges.specs.declared.fields.Described.{Described}
 use Rattle.ranges.specs.Fields.{inside, outside, neither, length_broken, bits_broken}
 
 abbrev pub mode_rules : ℕ → List Rule
@@ -34,16 +35,19 @@ protocol_rules port version protMode w =
 abbrev pub description_rules : ℕ → List Rule
 description_rules version = rule (outside 1 1 version) (FieldRange 37) ∷ []
 
+-- one direction's two offsets: its SPDU's length beside `other` octets of other data, and its bits
+abbrev pub described_rules : ℕ → ℕ → ℕ → ℕ → Described → List Rule
+described_rules lengthAt bitsAt protMode other d =
+    rule (length_broken protMode other d.length d.octets d.int16 d.int32) (FieldRange lengthAt)
+    ∷ rule (bits_broken d.bits d.octets) (FieldRange bitsAt)
+    ∷ []
+
 -- offsets 38 and 39: SPDUInLength m beside n octets of other data, and the input's bits
 abbrev pub input_rules : ℕ → ℕ → ℕ → ℕ → ℕ → ℕ → ℕ → List Rule
 input_rules protMode n m bits octets int16 int32 =
-    rule (length_broken protMode n m octets int16 int32) (FieldRange 38)
-    ∷ rule (bits_broken bits octets) (FieldRange 39)
-    ∷ []
+    described_rules 38 39 protMode n (record { length = m; bits = bits; octets = octets; int16 = int16; int32 = int32 })
 
 -- offsets 43 and 44: SPDUOutLength o beside p octets of other data, and the output's bits
 abbrev pub output_rules : ℕ → ℕ → ℕ → ℕ → ℕ → ℕ → ℕ → List Rule
 output_rules protMode p o bits octets int16 int32 =
-    rule (length_broken protMode p o octets int16 int32) (FieldRange 43)
-    ∷ rule (bits_broken bits octets) (FieldRange 44)
-    ∷ []
+    described_rules 43 44 protMode p (record { length = o; bits = bits; octets = octets; int16 = int16; int32 = int32 })

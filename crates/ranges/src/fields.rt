@@ -1,23 +1,17 @@
 // What the ranges of 01 are made of.
-ghost use Rattle.std.specs.Prelude.{◌≡◌, ◌-◌};
+ghost use Rattle.std.specs.Prelude.{◌≡◌};
 ghost use Rattle.ranges.specs.Fields as fields;
 
 pub fn outside(low: u32, high: u32, x: u32) -> bool
     ensures { result ≡ fields.outside low high x }
 {
-    !((low <= x) & (x <= high))
+    !(low..=high).contains(&x)
 }
 
 pub(crate) fn neither(a: u8, b: u8, x: u8) -> bool
     ensures { result ≡ fields.neither a b x }
 {
-    !((x == a) | (x == b))
-}
-
-fn room(other: u8) -> u32
-    ensures { result ≡ 32 - other }
-{
-    if other <= 32 { 32 - other as u32 } else { 0 }
+    x != a && x != b
 }
 
 // The octets of an SPDU that are not process data.
@@ -33,26 +27,35 @@ fn most_process_octets(mode: u8) -> u8
     if mode == 1 { 3 } else { 25 }
 }
 
-pub(crate) fn length_broken(
-    mode: u8,
-    other: u8,
-    length: u8,
-    octets: u8,
-    int16: u8,
-    int32: u8,
-) -> bool
-    ensures { result ≡ fields.length_broken mode other length octets int16 int32 }
-{
-    let safety = safety_octets(mode) as u32;
-    let most = most_process_octets(mode) as u32;
-    let sum = safety + octets as u32 + 2 * int16 as u32 + 4 * int32 as u32;
-    outside(5, room(other), length as u32)
-        | !(length as u32 == sum)
-        | (safety + most < length as u32)
+// What a block says of one direction: its SPDU's length, and the bits, octets and integers of the process data.
+#[derive(Clone, Copy)]
+pub struct Described {
+    pub length: u8,
+    pub bits: u8,
+    pub octets: u8,
+    pub int16: u8,
+    pub int32: u8,
 }
 
-pub(crate) fn bits_broken(bits: u8, octets: u8) -> bool
-    ensures { result ≡ fields.bits_broken bits octets }
-{
-    8 * (octets as u32) < (bits as u32)
+impl Described {
+    pub(crate) fn length_broken(self, mode: u8, other: u8) -> bool
+        ensures { result ≡ fields.length_broken mode other self.length self.octets self.int16 self.int32 }
+    {
+        let length = u32::from(self.length);
+        let safety = u32::from(safety_octets(mode));
+        let most = u32::from(most_process_octets(mode));
+        let sum = safety
+            + u32::from(self.octets)
+            + 2 * u32::from(self.int16)
+            + 4 * u32::from(self.int32);
+        outside(5, 32u32.saturating_sub(u32::from(other)), length)
+            || length != sum
+            || safety + most < length
+    }
+
+    pub(crate) fn bits_broken(self) -> bool
+        ensures { result ≡ fields.bits_broken self.bits self.octets }
+    {
+        8 * u32::from(self.octets) < u32::from(self.bits)
+    }
 }

@@ -1,7 +1,8 @@
 -- The premises of the session's theorems arise, and so does each case that its definitions tell apart: by 01's own examples where they do.
 -- Assumes nothing.
 use Rattle.std.proofs.Common.{◌≡◌, ℕ, true, false, List, [], ◌∷◌, ◌++◌, replicate, refl}
-use Rattle.answer.specs.declared.Answer.TheVariants.{NotRunning}
+use Rattle.std.specs.Prelude.{Ok, Err}
+use Rattle.answer.specs.declared.Refusal.TheVariants.{NotRunning}
 use Rattle.block.specs.Rules.{no_params}
 use Rattle.block.specs.Table22.{params_of}
 use Rattle.block.proofs.Arises as blocks
@@ -19,7 +20,7 @@ use Rattle.samples.specs.Samples.{releases_by, sent_since, passed_for_count, tim
 use Rattle.bench.specs.Methods.{annex_d}
 use Rattle.bench.specs.declared.Setting.{Setting}
 use Rattle.bench.specs.declared.Bench.{Bench}
-use Rattle.bench.specs.declared.Act.TheVariants.{Refused, Accepted, Happens}
+use Rattle.bench.specs.declared.Act.TheVariants.{Accepted, Happens}
 use Rattle.bench.specs.Ports.{new_bench, new_port, accepted_port, port_at, with_port, step_of, said, silent}
 use Rattle.bench.specs.Calls.{asked, asked_by_block, done, placed}
 use Rattle.bench.specs.History.{addressed, never, since, goes_on, extended, since_block, result_of, history_by}
@@ -90,12 +91,12 @@ abbrev on : Setting
 on = record { params = no_params; running = true; unused = [] }
 
 pub each-act :
-    (act_by annex_d false off (entry 3 1 0 []) ≡ Refused NotRunning)
-    × (act_by annex_d false off (entry 1 1 0 uneven) ≡ Accepted (params_of uneven))
-    × (act_by annex_d false on (entry 3 1 7 []) ≡ Happens (Clock 7))
+    (act_by annex_d false off (entry 3 1 0 []) ≡ Err NotRunning)
+    × (act_by annex_d false off (entry 1 1 0 uneven) ≡ Ok (Accepted (params_of uneven)))
+    × (act_by annex_d false on (entry 3 1 7 []) ≡ Ok (Happens (Clock 7)))
     -- "bit 0 setSD_C, bit 1 ChFAck_C"
-    × (act_by annex_d false on (entry 4 1 7 (1 ∷ [])) ≡ Happens (Operator 7 true false))
-    × (act_by annex_d false on (entry 4 1 7 (2 ∷ [])) ≡ Happens (Operator 7 false true))
+    × (act_by annex_d false on (entry 4 1 7 (1 ∷ [])) ≡ Ok (Happens (Operator 7 true false)))
+    × (act_by annex_d false on (entry 4 1 7 (2 ∷ [])) ≡ Ok (Happens (Operator 7 false true)))
 unfolding asked asked_by_block signing.signature signing.octet signing.shift_in_all signing.shift_in
 each-act = (refl, refl, refl, refl, refl)
 

@@ -1,6 +1,7 @@
 -- The loop of a run: what holds of it at every record, and that a record whose act is done leaves it so. Assumes nothing.
 use Rattle.std.proofs.Common.{◌≡◌, ℕ, Bool, ◌+◌, ◌-◌, ◌*◌, ◌^◌, ◌<◌, ◌≤◌, List, [], length, get_or, drop, sym, refl, ap, ◌∙◌, arith, length-drop}
-use Rattle.std.specs.Prelude.{Ok}
+use Rattle.std.specs.Prelude.{Result, Ok}
+use Rattle.answer.specs.declared.Refusal.{Refusal}
 use Rattle.ranges.specs.Fields.{outside}
 use Rattle.bench.specs.declared.Setting.{Setting}
 use Rattle.bench.specs.declared.Live.{Live}
@@ -49,7 +50,7 @@ module _ {st₀ : State} {s out₀ : List ℕ} {room records : ℕ} {out : List 
     {r : Record} (read : record_by (form (drop at s)) (drop at s) at ≡ Ok r)
     {k : ℕ} (here : k ≡ index_of r.port) (below : k < 8) {o : Bool} (out_is : o ≡ outside 1 8 r.port) (xs : Setting) (xl : Live)
     {by : Method} (method : by ≡ annex_d)
-    {a : Act} (asked : a ≡ act_by by o (get_or settings k xs) (entry_in s r)) where
+    {a : Result Act Refusal} (asked : a ≡ act_by by o (get_or settings k xs) (entry_in s r)) where
   f : Found (form (drop at s)) (drop at s) at r
   f = whole_found (form (drop at s)) (drop at s) at r read
 

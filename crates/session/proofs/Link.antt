@@ -1,7 +1,9 @@
 -- A run from its middle on: what the records read and the records to come make of the start. Assumes nothing.
 use Rattle.std.proofs.Common.{◌≡◌, ℕ, zero, suc, ◌+◌, ◌-◌, ◌/◌, ◌^◌, ◌<◌, ◌≤◌, Bool, true, false, cond, ◌⊎◌, List, [], ◌∷◌, ◌++◌, length, get_or, take, drop, sym, refl, ap, ◌∙◌, ⊎_elim, append_assoc, append-nil, arith, length-drop, take-append-drop, length-take-le, drop-drop}
 use Rattle.io.specs.Counts.{IsPrefixLen}
-use Rattle.answer.specs.declared.Answer.{Answer}
+use Rattle.std.specs.Prelude.{Result}
+use Rattle.answer.specs.declared.Refusal.{Refusal}
+use Rattle.answer.specs.Answers.{Answer}
 use Rattle.ranges.specs.Fields.{outside}
 use Rattle.bench.specs.Methods.{Method, annex_d}
 use Rattle.bench.specs.declared.Setting.{Setting}
@@ -144,7 +146,7 @@ pub one_if : (some : Bool) (n : ℕ) → n < 2 ^ 64 → plus n (from_bool some) 
 one_if true n h = refl
 one_if false n h = omega arith
 
-module _ (b : Bench) (records refused : ℕ) (e : Entry) (a : Act)
+module _ (b : Bench) (records refused : ℕ) (e : Entry) (a : Result Act Refusal)
     (ha : a ≡ act_by annex_d (outside 1 8 e.port) (get_or b.ports (index_of e.port) no_port).setting e) where
   abbrev st : State
   st = state_of b records refused
@@ -156,7 +158,7 @@ module _ (b : Bench) (records refused : ℕ) (e : Entry) (a : Act)
   answer_is = ap answer_in ha ∙ turn_answer b e
 
   bench_is : later ≡ after b (call_of b e)
-  bench_is = ap (λ (a : Act). record { ports = act_ports b.ports (index_of e.port) e.at a }) ha ∙ turn_bench b e
+  bench_is = ap (λ (a : Result Act Refusal). record { ports = act_ports b.ports (index_of e.port) e.at a }) ha ∙ turn_bench b e
 
   state_after : state_of later (more records) (refused_after refused (answer_in a)) ≡ applied st e
   unfolding applied_by
@@ -182,7 +184,7 @@ entry_found s at r f =
 
 module _ (st₀ : State) (s out₀ : List ℕ) (n : ℕ) (out : List ℕ) (b : Bench) (records refused n' at w : ℕ)
     (l : Link st₀ s out₀ n out (state_of b records refused) n' at w) where
-  pub stepped : (out' : List ℕ) (r : Record) (m w' : ℕ) (setting : Setting) (a : Act) (by : Method)
+  pub stepped : (out' : List ℕ) (r : Record) (m w' : ℕ) (setting : Setting) (a : Result Act Refusal) (by : Method)
       → Found (form (drop at s)) (drop at s) at r → 0 < n' → by ≡ annex_d
       → setting ≡ (get_or b.ports (index_of r.port) no_port).setting
       → a ≡ act_by by (outside 1 8 r.port) setting (entry_in s r)

@@ -1,9 +1,8 @@
 -- The safe values lent are right, so that no record is answered 7 (R27). Assumes nothing.
 use Rattle.std.proofs.Common.{◌≡◌, ℕ, zero, suc, Bool, true, false, cond, not, ◌&&◌, eqb, List, [], ◌∷◌, length, replicate, refl, ap, ◌∙◌, eq-eqb}
 use lib.ListN.{length-replicate}
-use Rattle.answer.specs.declared.Answer.{Answer}
-use Rattle.answer.specs.declared.Answer.TheVariants.{Taken}
-use Rattle.answer.specs.Answers.{number_of, is_taken}
+use Rattle.std.specs.Prelude.{Err}
+use Rattle.answer.specs.Answers.{Answer, Taken, number_of, is_taken}
 use Rattle.answer.specs.Rules.{Rule, rule, refused, answer_by}
 use Rattle.block.specs.declared.Params.{Params}
 use Rattle.spdu.specs.Places.{process_octets, is_all_zero}
@@ -23,7 +22,7 @@ is_seven a = eqb (number_of a) 7
 -- no rule that is broken is answered 7
 abbrev no_seven : List Rule → Bool
 no_seven [] = true
-no_seven (rule broken a ∷ rules) = not (is_seven a && broken) && no_seven rules
+no_seven (rule broken r ∷ rules) = not (is_seven (Err r) && broken) && no_seven rules
 
 refused_by : (taken broken : Bool) (a r : Answer) → is_seven a ≡ false → not (is_seven r && broken) ≡ true → is_seven (cond (taken && broken) r a) ≡ false
 refused_by true true a r e h = right (is_seven r) h
@@ -38,8 +37,8 @@ refused_by false false a r e h = e
 never : (rules : List Rule) (a : Answer) → is_seven a ≡ false → no_seven rules ≡ true → is_seven (answer_by a rules) ≡ false
 never [] a e h = e
 never (rule broken r ∷ rules) a e h =
-    never rules (refused a broken r) (refused_by (is_taken a) broken a r e (and_left (not (is_seven r && broken)) (no_seven rules) h))
-    (and_right (not (is_seven r && broken)) (no_seven rules) h)
+    never rules (refused a broken r) (refused_by (is_taken a) broken a (Err r) e (and_left (not (is_seven (Err r) && broken)) (no_seven rules) h))
+    (and_right (not (is_seven (Err r) && broken)) (no_seven rules) h)
 
 zeros-zero : (n : ℕ) → is_all_zero (replicate {A = ℕ} n 0) ≡ true
 zeros-zero zero = refl

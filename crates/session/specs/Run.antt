@@ -1,9 +1,9 @@
 -- 01, "The session program": a session is its whole records in order, each a call on the bench, and what is printed of them. What stands behind
 -- the last whole record, if anything, is a record cut short or a bad one: a 13, which ends reading and makes no call. Assumes nothing.
-use Rattle.std.specs.Prelude.{ℕ, zero, suc, ◌+◌, ◌-◌, ◌/◌, ◌%◌, ◌^◌, min, Bool, true, false, cond, not, List, [], ◌∷◌, ◌++◌, length, drop, replicate, ◌==◌, nat_lt, slice_index, Option, None, Some}
-use Rattle.answer.specs.declared.Answer.{Answer}
-use Rattle.answer.specs.declared.Answer.TheVariants as answers
-use Rattle.answer.specs.Answers.{number_of, is_taken}
+use Rattle.std.specs.Prelude.{ℕ, zero, suc, ◌+◌, ◌-◌, ◌/◌, ◌%◌, ◌^◌, min, Bool, true, false, cond, not, List, [], ◌∷◌, ◌++◌, length, drop, replicate, ◌==◌, nat_lt, slice_index, Option, None, Some, Result}
+use Rattle.answer.specs.declared.Refusal.{Refusal}
+use Rattle.answer.specs.declared.Refusal.TheVariants as refusals
+use Rattle.answer.specs.Answers.{Answer, refusal_number, number_of, is_taken}
 use Rattle.block.specs.declared.Params.{Params}
 use Rattle.spdu.specs.Places.{process_octets}
 use Rattle.bench.specs.declared.Setting.{Setting}
@@ -85,7 +85,7 @@ call_of b e = call_by (port_at b e.port).setting.params e
 
 -- what that call asks of the port (proofs/Turn.antt), by a method of signing: o says that no port has the number, s is the port's setting. Zeros
 -- of the right length hold as safe values.
-abbrev pub act_by : Method → Bool → Setting → Entry → Act
+abbrev pub act_by : Method → Bool → Setting → Entry → Result Act Refusal
 act_by m o s e =
     cond (e.kind == 1) (parameters_act m.block e.port e.octets)
     (cond (e.kind == 2) (response_act m.spdu o s e.at e.octets true)
@@ -153,7 +153,7 @@ lines_of st rs = lines_by annex_d st rs
 
 -- "A 13 ends reading": its line, where some octets are left
 abbrev pub thirteen_line : Bool → ℕ → List ℕ
-thirteen_line some records = cond some (refusal_line (more records) (number_of answers.Record)) []
+thirteen_line some records = cond some (refusal_line (more records) (refusal_number refusals.Record)) []
 
 -- at the end: the line of a 13, then "records A refused B", then the port lines
 unfoldable pub closing : State → Bool → List ℕ

@@ -4,7 +4,7 @@ ghost use Rattle.record.specs.Format.{number_of};
 ghost use Rattle.bench.specs.Methods.{method_of};
 ghost use Rattle.session.specs.Run as runs;
 
-use answer::Answer;
+use answer::Refusal;
 use bench::{Act, End, Setting};
 use record::{Kind, Record};
 use signature::Signing;
@@ -16,30 +16,25 @@ pub(crate) fn act_of(
     setting: Setting,
     found: Record,
     octets: &[u8],
-) -> Act
+) -> Result<Act, Refusal>
     ensures { result ≡ runs.act_by (method_of signing.now.engine signing.now.short.now signing.now.long.now) outside setting (runs.entry (number_of found.kind) found.port found.clock octets.now) }
 {
+    // By returns: one match whose arms each make a Result costs 19 instructions a record more.
+    if let Kind::Block = found.kind {
+        return bench::parameters_act(signing, found.port, octets);
+    }
+    if outside {
+        return Err(Refusal::NoPort);
+    }
+    let setting = Some(setting);
     match found.kind {
-        Kind::Block => bench::parameters_act(signing, found.port, octets),
-        _ if outside => Act::Refused(Answer::NoPort),
-        Kind::Response => bench::spdu_act(
-            signing,
-            End::Master,
-            Some(setting),
-            found.clock,
-            octets,
-            true,
-        ),
-        Kind::Clock => bench::clock_act(Some(setting), found.clock, true),
-        Kind::Operator => {
+        Kind::Response => {
+            bench::spdu_act(signing, End::Master, setting, found.clock, octets, true)
+        }
+        Kind::Clock => bench::clock_act(setting, found.clock, true),
+        Kind::Block | Kind::Operator => {
             let bits = octets.first().copied().unwrap_or(0);
-            bench::operator_act(
-                Some(setting),
-                found.clock,
-                bits % 2 == 1,
-                bits / 2 % 2 == 1,
-                true,
-            )
+            bench::operator_act(setting, found.clock, bits % 2 == 1, bits / 2 % 2 == 1, true)
         }
     }
 }

@@ -8,7 +8,7 @@ ghost use Rattle.bench.specs.Columns as columns;
 use crate::calling::act_of;
 use crate::text::{port_lines, put};
 use crate::{Fed, State};
-use answer::Answer;
+use answer::{Answer, Refusal};
 use bench::{Act, BIN_COUNT, PORT_COUNT};
 use lines::LINE_ROOM;
 use record::read_record;
@@ -31,10 +31,9 @@ pub fn start() -> State
 fn refused_after(refused: u64, answer: Answer) -> u64
     ensures { result ≡ runs.refused_after refused answer }
 {
-    if answer::is_taken(answer) {
-        refused
-    } else {
-        refused.saturating_add(1)
+    match answer {
+        Ok(()) => refused,
+        Err(_) => refused.saturating_add(1),
     }
 }
 
@@ -44,11 +43,12 @@ fn say(out: &mut [u8], at: usize, number: u64, answer: Answer) -> usize
     ensures written { lines.Written out.old at (runs.line_for number answer) result out.new }
     ensures at_most_a_line { result ≤ at + lines.line_room }
 {
-    if answer::is_taken(answer) {
-        at
-    } else {
-        let line = lines::refusal_line(number, answer::number(answer));
-        put(out, at, line.as_octets())
+    match answer {
+        Ok(()) => at,
+        Err(refusal) => {
+            let line = lines::refusal_line(number, refusal.number());
+            put(out, at, line.as_octets())
+        }
     }
 }
 
@@ -102,28 +102,30 @@ pub fn feed(engine: Engine, st: State, s: &[u8], out: &mut [u8]) -> Fed
         at = found.next;
         left -= 1;
         match act {
-            Act::Refused(answer) => {
-                refused = refused_after(refused, answer);
+            Err(refusal) => {
+                refused = refused_after(refused, Err(refusal));
                 let number = st.records.saturating_add((room - left) as u64);
-                written = say(out, written, number, answer);
+                written = say(out, written, number, Err(refusal));
             }
-            Act::Accepted(params) => {
-                settings[k] = bench::accepted(setting, params);
-                lives[k] = bench::begun(lives[k], found.clock);
-                bins[k] = [0; BIN_COUNT];
-            }
-            Act::Happens(happening) => {
-                // Nearly every record's turn is told first, for the compiler, and `live` has a name for it too (bench, src/by_t4.rt).
-                if bench::is_regular(setting, lives[k], happening) {
-                    let turned = bench::regular(setting, lives[k], happening);
-                    lives[k] = turned.live;
-                    raise(&mut bins, k, turned.bin);
-                } else {
-                    let turned = bench::turn(setting, lives[k], happening);
-                    lives[k] = turned.live;
-                    raise(&mut bins, k, turned.bin);
+            Ok(act) => match act {
+                Act::Accepted(params) => {
+                    settings[k] = bench::accepted(setting, params);
+                    lives[k] = bench::begun(lives[k], found.clock);
+                    bins[k] = [0; BIN_COUNT];
                 }
-            }
+                Act::Happens(happening) => {
+                    // Nearly every record's turn is told first, for the compiler (bench, src/by_t4.rt).
+                    if bench::is_regular(setting, lives[k], happening) {
+                        let turned = bench::regular(setting, lives[k], happening);
+                        lives[k] = turned.live;
+                        raise(&mut bins, k, turned.bin);
+                    } else {
+                        let turned = bench::turn(setting, lives[k], happening);
+                        lives[k] = turned.live;
+                        raise(&mut bins, k, turned.bin);
+                    }
+                }
+            },
         }
     }
     let state = State {
@@ -145,7 +147,7 @@ fn thirteen(out: &mut [u8], some: bool, records: u64) -> usize
     ensures at_most_a_line { result ≤ lines.line_room }
 {
     if some {
-        say(out, 0, records.saturating_add(1), Answer::Record)
+        say(out, 0, records.saturating_add(1), Err(Refusal::Record))
     } else {
         0
     }

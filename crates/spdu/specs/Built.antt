@@ -1,8 +1,8 @@
 -- What is sent: the octets of an SPDU (R2), the control and status octets (000 Tables 31 and 32, reserved bits 0: R8), and the signature with a zero
 -- replaced. Assumes nothing.
-use Rattle.std.specs.Prelude.{ℕ, ◌+◌, ◌*◌, ◌/◌, ◌%◌, Bool, cond, ◌&&◌, List, [], ◌∷◌, ◌++◌, eqb, length, replicate}
-use Rattle.answer.specs.declared.Answer.{Answer}
-use Rattle.answer.specs.declared.Answer.TheVariants.{Taken, Buffer}
+use Rattle.std.specs.Prelude.{ℕ, ◌+◌, ◌*◌, ◌/◌, ◌%◌, Bool, cond, ◌&&◌, List, [], ◌∷◌, ◌++◌, eqb, length, replicate, Err}
+use Rattle.answer.specs.declared.Refusal.TheVariants.{Buffer}
+use Rattle.answer.specs.Answers.{Answer, Taken}
 use Rattle.ranges.specs.Fields.{safety_octets}
 use Rattle.block.specs.declared.Params.{Params}
 use Rattle.spdu.specs.Signature.{replaced}
@@ -38,7 +38,7 @@ abbrev pub buffers_hold : ℕ → ℕ → ℕ → ℕ → Bool
 buffers_hold mode spdu process out = eqb (process + safety_octets mode) spdu && eqb out spdu
 
 abbrev pub built_as : Bool → Answer
-built_as hold = cond hold Taken Buffer
+built_as hold = cond hold Taken (Err Buffer)
 
 -- the FS-Master's SPDU, of SPDUOutLength octets, in the buffer out
 abbrev pub request_built : (ℕ → List ℕ → ℕ) → Params → ℕ → Bool → Bool → List ℕ → List ℕ → List ℕ

@@ -6,7 +6,7 @@ ghost use Rattle.spdu.specs.Built as built;
 
 use crate::control::{Control, Status};
 use crate::read::replace;
-use answer::Answer;
+use answer::{Answer, Refusal};
 use block::Params;
 use signature::Signing;
 
@@ -78,7 +78,7 @@ pub fn build_request_by(
     ensures out_after { out.new ≡ built.request_built (by_engine signing.now.engine signing.now.short.now signing.now.long.now) p control.MCount control.setSD control.ChFAckReq process.now out.old }
 {
     if !buffers_hold(p.FSP_ProtMode, p.SPDUOutLength, process.len(), out.len()) {
-        return Answer::Buffer;
+        return Err(Refusal::Buffer);
     }
     let n = process.len();
     let (sent, trailer) = out.split_at_mut(n);
@@ -91,7 +91,7 @@ pub fn build_request_by(
         control.octet(),
         trailer,
     );
-    Answer::Taken
+    Ok(())
 }
 
 // The FS-Device's SPDU, into exactly SPDUInLength octets; zeros until it has responded.
@@ -109,7 +109,7 @@ pub fn build_response_by(
     ensures out_after { out.new ≡ built.response_built (by_engine signing.now.engine signing.now.short.now signing.now.long.now) p responded status.DCount_i status.SDset status.DCommErr status.DTimeout process.now out.old }
 {
     if !buffers_hold(p.FSP_ProtMode, p.SPDUInLength, process.len(), out.len()) {
-        return Answer::Buffer;
+        return Err(Refusal::Buffer);
     }
     if responded {
         let n = process.len();
@@ -126,5 +126,5 @@ pub fn build_response_by(
     } else {
         out.fill(0);
     }
-    Answer::Taken
+    Ok(())
 }

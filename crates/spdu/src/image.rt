@@ -7,7 +7,7 @@ ghost use Rattle.spdu.specs.Image as image;
 use crate::build::{buffers_hold, build_request_by};
 use crate::control::Control;
 use crate::read::{all_zero, process_octets};
-use answer::Answer;
+use answer::{Answer, Refusal};
 use block::Params;
 use scl::Mark;
 use signature::Signing;
@@ -35,12 +35,12 @@ pub fn compose_by(
     ensures octets_after { octets.new ≡ image.composed (by_engine signing.now.engine signing.now.short.now signing.now.long.now) p control.MCount control.setSD control.ChFAckReq process.now other.now octets.old }
 {
     if !composer_holds(p, process.len(), other.len(), octets.len()) {
-        return Answer::Buffer;
+        return Err(Refusal::Buffer);
     }
     let (spdu, rest) = octets.split_at_mut(p.SPDUOutLength as usize);
-    build_request_by(signing, p, control, process, spdu);
+    build_request_by(signing, p, control, process, spdu)?;
     rest.copy_from_slice(other);
-    Answer::Taken
+    Ok(())
 }
 
 fn splitter_holds(p: Params, n: usize) -> bool
@@ -54,9 +54,9 @@ pub fn split(p: Params, octets: &[u8]) -> Answer
     ensures { result ≡ built_as (image.splitter_holds p (length octets.now)) }
 {
     if splitter_holds(p, octets.len()) {
-        Answer::Taken
+        Ok(())
     } else {
-        Answer::Buffer
+        Err(Refusal::Buffer)
     }
 }
 

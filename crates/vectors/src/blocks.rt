@@ -177,7 +177,7 @@ impl Octets {
 }
 
 fn judged(run: Run, name: &str, octets: &[u8], port: u8, number: u8, offset: u8) {
-    let answer = block::judge(run.engine, octets, port).answer;
+    let answer = block::judge(run.engine, octets, port);
     let paper = Told { number, offset };
     compared(run.output, name, Told::from(answer), paper);
 }

@@ -15,7 +15,7 @@ fn summed(sum: u64, total: u32) -> Histogram {
 }
 
 fn mean_of(output: Stdout, name: &str, h: Histogram, paper: u64) {
-    let mean = histogram::trend_of(h).point.mean;
+    let mean = histogram::point_told(histogram::trend_of(h)).mean;
     compared(output, name, Pattern::from(mean), Pattern(paper));
 }
 
@@ -84,8 +84,7 @@ fn freeze(output: Stdout) {
 
 // "NO_SAMPLES: a trend point is asked for with no sample."
 fn no_sample(output: Stdout) {
-    let answer = histogram::trend_of(histogram::cleared()).answer;
-    let number = answer::number(answer);
+    let number = answer::number(histogram::trend_of(histogram::cleared()));
     compared(output, "answer with no sample", number, 11);
 }
 

@@ -1,5 +1,5 @@
 // Lines of text on standard output. A write that fails shows in the lines that are missing, so its error is passed over.
-use answer::Answer;
+use answer::Refusal;
 use std::fmt;
 use std::fmt::Display;
 use std::io::{Print, Stdout};
@@ -28,8 +28,8 @@ pub(crate) struct Told {
     pub(crate) offset: u8,
 }
 
-impl From<Answer> for Told {
-    fn from(answer: Answer) -> Told {
+impl<T: Copy> From<Result<T, Refusal>> for Told {
+    fn from(answer: Result<T, Refusal>) -> Told {
         Told {
             number: answer::number(answer),
             offset: answer::offset(answer),

@@ -65,7 +65,7 @@ fn request(engine: Engine, p: Params, setSD: bool, ChFAckReq: bool, out: &mut [u
         setSD,
         ChFAckReq,
     };
-    spdu::build_request_by(&signing, p, control, &PROCESS, out);
+    let _ = spdu::build_request_by(&signing, p, control, &PROCESS, out);
 }
 
 fn response(
@@ -90,7 +90,7 @@ fn response(
         DCommErr: false,
         DTimeout,
     };
-    spdu::build_response_by(&signing, p, true, status, process, out);
+    let _ = spdu::build_response_by(&signing, p, true, status, process, out);
 }
 
 fn octets(output: Stdout, name: &str, ours: &[u8], paper: &[u8]) {

@@ -4,4 +4,4 @@ use Rattle.bench.proofs.calls.happened.Goals as goal
 
 pub returns-in-Happens : goal.returns-in-Happens
 unfolding done
-returns-in-Happens c at = simp c.in-Happens.is (c.stepped.ensures at)
+returns-in-Happens c at = rw (c.in-Ok.is, c.in-Happens.is) (c.stepped.ensures at)

@@ -3,6 +3,8 @@ use Rattle.std.proofs.Common.{ℕ, List, false, get_or, sym, ap, ◌∙◌}
 use Rattle.spdu.specs.Signature.{by_bits, by_engine}
 use Rattle.spdu.proofs.Engines.{right_method}
 use Rattle.bench.specs.declared.Setting.{Setting}
+use Rattle.std.specs.Prelude.{Result}
+use Rattle.answer.specs.declared.Refusal.{Refusal}
 use Rattle.bench.specs.declared.Act.{Act}
 use Rattle.bench.specs.Ports.{no_port}
 use Rattle.bench.specs.Calls.{spdu_act}
@@ -34,7 +36,7 @@ returns c =
     let i = c.in-Some.i in
     let p = get_or x.b.ports i no_port in
     c.happened.ensures x.at
-    ∙ ap (λ (a : Act). acted x.b i p x.at a)
+    ∙ ap (λ (a : Result Act Refusal). acted x.b i p x.at a)
     (c.spdu_act-act.ensures
     ∙ ap (λ (sign : ℕ → List ℕ → ℕ). spdu_act sign x.end false p.setting x.at x.spdu.now c.safe_hold-holds.result)
     (right_method x.engine _ _ c.table_for-short.ensures.serves c.table_for-long.ensures.serves))

@@ -2,6 +2,8 @@
 use Rattle.std.proofs.Common.{ℕ, List, get_or, sym, ap, ◌∙◌}
 use Rattle.block.specs.Table22.{parameter_signature}
 use Rattle.block.proofs.Signed.{right_parameters}
+use Rattle.std.specs.Prelude.{Result}
+use Rattle.answer.specs.declared.Refusal.{Refusal}
 use Rattle.bench.specs.declared.Act.{Act}
 use Rattle.bench.specs.Ports.{no_port}
 use Rattle.bench.specs.Calls.{parameters_act}
@@ -21,7 +23,7 @@ returns c =
     let x = c.args in
     let i = c.in-Some.i in
     c.acted.ensures
-    ∙ ap (λ (a : Act). acted x.b i (get_or x.b.ports i no_port) x.at a)
+    ∙ ap (λ (a : Result Act Refusal). acted x.b i (get_or x.b.ports i no_port) x.at a)
     (c.parameters_act-act.ensures
     ∙ ap (λ (sign : List ℕ → ℕ). parameters_act sign x.port x.octets.now) (right_parameters x.engine _ c.table_for-short.ensures.serves))
     ∙ found x.b x.port x.at (λ o s. parameters_act parameter_signature x.port x.octets.now) (sym c.place_of.ensures.value ∙ c.in-Some.is)

@@ -15,8 +15,8 @@ no_block Response h = refl
 no_block Clock h = refl
 no_block Operator h = refl
 
-pub returns-in_default : goal.returns-in_default
-returns-in_default c =
+pub returns-then-outside : goal.returns-then-outside
+returns-then-outside c =
     let x = c.args in
     simp (c.if-outside.true, no_block x.found.kind c.in_default.not-Block)
     (refused_outside (method_of x.signing.now.engine x.signing.now.short.now x.signing.now.long.now) x.setting (entry (number_of x.found.kind) x.found.port x.found.clock x.octets.now))

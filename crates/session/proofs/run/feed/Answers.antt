@@ -1,6 +1,7 @@
 -- `session::run::feed` meets its contract. Assumes nothing.
 use Rattle.std.proofs.Common.{◌≡◌, ◌⊎◌, ◌<◌, ℕ, false, List, drop, set, sym, refl, ap, ◌∙◌, inl, inr, arith, rules}
-use Rattle.std.specs.Prelude.{Ok}
+use Rattle.std.specs.Prelude.{Result, Ok}
+use Rattle.answer.specs.declared.Refusal.{Refusal}
 use Rattle.bench.specs.declared.Setting.{Setting}
 use Rattle.bench.specs.declared.Live.{Live}
 use Rattle.bench.specs.declared.Act.{Act}
@@ -30,19 +31,19 @@ pub loop-left-init : goal.loop-left-init
 loop-left-init c =
     starts _ _ _ _ c.settings_of-settings.ensures c.lives_of-lives.ensures c.all_bins_of-bins.ensures (search rules) (omega arith) (omega arith)
 
-pub loop-left-preserved-in-Refused : goal.loop-left-preserved-in-Refused
+pub loop-left-preserved-in-Err : goal.loop-left-preserved-in-Err
 unfolding no_port
-loop-left-preserved-in-Refused c =
+loop-left-preserved-in-Err c =
     let l = c.loop-left in
     let k = c.unwrap_or-k.ensures ∙ place_index c.in-Ok.found.port c.place_of-place.ensures.value in
     let below : c.unwrap_or-k.result < 8 = rw k (index_below c.in-Ok.found.port) in
     let o = place_outside c.in-Ok.found.port c.place_of-place.ensures.value c.is_none.ensures in
     let tables = right_methods _ _ _ c.table_for-short.ensures.serves c.table_for-long.ensures.serves in
-    let e = c.in-Refused.is in
+    let e = c.in-Err.is in
     let said = c.say-written in
     goes_on l.invariant (omega (arith, c.if-left-eq0.false)) (sym c.read_record.ensures ∙ c.in-Ok.is) k below o no_port.setting no_port.live tables c.act_of-act.ensures
     (refused _ _ _ _ _ l.invariant.eight below no_port.setting no_port.live e refl refl refl)
-    (c.refused_after-refused.ensures ∙ ap (λ (a : Act). refused_after l.refused (answer_in a)) (sym e))
+    (c.refused_after-refused.ensures ∙ ap (λ (a : Result Act Refusal). refused_after l.refused (answer_in a)) (sym e))
     (rw (← c.saturating_add-number.ensures, e) said.ensures.written) said.ensures.at_most_a_line (omega (arith, said.auto))
 
 pub loop-left-preserved-in-Accepted : goal.loop-left-preserved-in-Accepted
@@ -53,12 +54,12 @@ loop-left-preserved-in-Accepted c =
     let below : c.unwrap_or-k.result < 8 = rw k (index_below c.in-Ok.found.port) in
     let o = place_outside c.in-Ok.found.port c.place_of-place.ensures.value c.is_none.ensures in
     let tables = right_methods _ _ _ c.table_for-short.ensures.serves c.table_for-long.ensures.serves in
-    let e = c.in-Accepted.is in
+    let e = c.in-Ok-act.is ∙ ap (λ (a : Act). Ok a) c.in-Accepted.is in
     goes_on l.invariant (omega (arith, c.if-left-eq0.false)) (sym c.read_record.ensures ∙ c.in-Ok.is) k below o no_port.setting no_port.live tables c.act_of-act.ensures
     (accepted _ _ _ _ _ l.invariant.eight below no_port.setting no_port.live e
     (ap (λ (y : Setting). set l.settings c.unwrap_or-k.result y) c.accepted.ensures)
     (ap (λ (y : Live). set l.lives c.unwrap_or-k.result y) c.begun.ensures) refl)
-    (ap (λ (a : Act). refused_after l.refused (answer_in a)) (sym e))
+    (ap (λ (a : Result Act Refusal). refused_after l.refused (answer_in a)) (sym e))
     (rw e (none _ _)) (omega arith) refl
 
 pub raise-requires-clause-is_bin : goal.raise-requires-clause-is_bin
@@ -74,10 +75,10 @@ loop-left-preserved-then-is_regular c =
     let below : c.unwrap_or-k.result < 8 = rw k (index_below c.in-Ok.found.port) in
     let o = place_outside c.in-Ok.found.port c.place_of-place.ensures.value c.is_none.ensures in
     let tables = right_methods _ _ _ c.table_for-short.ensures.serves c.table_for-long.ensures.serves in
-    let e = c.in-Happens.is in
+    let e = c.in-Ok-act.is ∙ ap (λ (a : Act). Ok a) c.in-Happens.is in
     goes_on l.invariant (omega (arith, c.if-left-eq0.false)) (sym c.read_record.ensures ∙ c.in-Ok.is) k below o no_port.setting no_port.live tables c.act_of-act.ensures
     (happened _ _ _ _ _ l.invariant.eight below no_port.setting no_port.live _ _ (c.regular-turned.ensures ∙ regular_turn _ _ _ (sym c.is_regular.ensures ∙ c.if-is_regular.true)) e refl refl c.raise.ensures)
-    (ap (λ (a : Act). refused_after l.refused (answer_in a)) (sym e))
+    (ap (λ (a : Result Act Refusal). refused_after l.refused (answer_in a)) (sym e))
     (rw e (none _ _)) (omega arith) refl
 
 pub raise-requires-else-is_regular-clause-is_bin : goal.raise-requires-else-is_regular-clause-is_bin
@@ -91,10 +92,10 @@ loop-left-preserved c =
     let below : c.unwrap_or-k.result < 8 = rw k (index_below c.in-Ok.found.port) in
     let o = place_outside c.in-Ok.found.port c.place_of-place.ensures.value c.is_none.ensures in
     let tables = right_methods _ _ _ c.table_for-short.ensures.serves c.table_for-long.ensures.serves in
-    let e = c.in-Happens.is in
+    let e = c.in-Ok-act.is ∙ ap (λ (a : Act). Ok a) c.in-Happens.is in
     goes_on l.invariant (omega (arith, c.if-left-eq0.false)) (sym c.read_record.ensures ∙ c.in-Ok.is) k below o no_port.setting no_port.live tables c.act_of-act.ensures
     (happened _ _ _ _ _ l.invariant.eight below no_port.setting no_port.live _ _ c.turn-turned.ensures e refl refl c.raise-else-is_regular.ensures)
-    (ap (λ (a : Act). refused_after l.refused (answer_in a)) (sym e))
+    (ap (λ (a : Result Act Refusal). refused_after l.refused (answer_in a)) (sym e))
     (rw e (none _ _)) (omega arith) refl
 
 pub returns : goal.returns
