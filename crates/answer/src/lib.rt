@@ -27,6 +27,7 @@ pub enum Refusal {
 pub type Answer = Result<(), Refusal>;
 
 impl Refusal {
+    // A match, as a case with a value has no `as u8`; and no `From`, as a refusal has two numbers of 8 bits, this one and its offset.
     pub fn number(self) -> u8
         ensures { result ≡ refusal_number self }
     {

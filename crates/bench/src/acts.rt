@@ -10,7 +10,7 @@ ghost use Rattle.bench.specs.Calls as calls;
 use crate::{Act, End, Setting};
 use answer::{Answer, Refusal, refuse_if};
 use scl::Happening;
-use signature::Signing;
+use signature::{Engine, Signing};
 
 // Where the port of a number stands; none where no port has it.
 pub fn place_of(port: u8) -> Option<usize>
@@ -28,9 +28,7 @@ pub fn place_of(port: u8) -> Option<usize>
 fn running(setting: Option<Setting>) -> Result<Setting, Refusal>
     ensures { result ≡ with_value (answer_by Taken (calls.port_rules (is_none setting) (calls.setting_in setting))) (calls.setting_in setting) }
 {
-    let Some(s) = setting else {
-        return Err(Refusal::NoPort);
-    };
+    let s = setting.ok_or(Refusal::NoPort)?;
     refuse_if(!s.running, Refusal::NotRunning)?;
     Ok(s)
 }
@@ -50,7 +48,7 @@ fn safe_answer(setting: Option<Setting>, safe_holds: bool) -> Answer
     refuse_if(!safe_holds, Refusal::Buffer)
 }
 
-// The same and 10 of an SPDU of so many octets where so many are configured.
+// 8, 9, 10 and 7, of an SPDU of `length` octets where `configured` are configured.
 fn spdu_answer(s: Setting, configured: u8, length: usize, safe_holds: bool) -> Answer
     ensures { result ≡ answer_by Taken (calls.spdu_rules false s configured length safe_holds) }
 {
@@ -61,10 +59,15 @@ fn spdu_answer(s: Setting, configured: u8, length: usize, safe_holds: bool) -> A
 
 // A parameter block of any length.
 #[tactic(auto, unfolding(crate::specs::Calls::asked_by_block))]
-pub fn parameters_act(signing: &Signing, port: u8, octets: &[u8]) -> Result<Act, Refusal>
-    ensures { result ≡ calls.parameters_act (parameters_by signing.now.engine signing.now.short.now) port octets.now }
+pub fn parameters_act(
+    engine: Engine,
+    short: &[u16; 256],
+    port: u8,
+    octets: &[u8],
+) -> Result<Act, Refusal>
+    ensures { result ≡ calls.parameters_act (parameters_by engine short.now) port octets.now }
 {
-    Ok(Act::Accepted(block::judge_by(signing, octets, port)?))
+    Ok(Act::Accepted(block::judge_by(engine, short, octets, port)?))
 }
 
 // What an SPDU is at an end.
@@ -104,7 +107,7 @@ pub fn clock_act(setting: Option<Setting>, at: u32, safe_holds: bool) -> Result<
     Ok(Act::Happens(Happening::Clock(at)))
 }
 
-// Operator signals.
+// Operator signals, by 000's names; two bits, as C gives them (`whakelouna_operator`).
 #[tactic(auto, unfolding(crate::specs::Calls::asked))]
 pub fn operator_act(
     setting: Option<Setting>,

@@ -25,13 +25,10 @@ pub fn is_regular(setting: Setting, live: Live, happening: Happening) -> bool
 {
     match happening {
         Happening::Response(at, f) => is_regular_response(setting, live, at, f),
-        Happening::Request(_, _) => false,
-        Happening::Clock(_) => false,
-        Happening::Operator(_, _, _) => false,
+        _ => false,
     }
 }
 
-// Field by field, and so in a session's loop: by `..live` here and `lives[k] = turned.live` there a record took 346 instructions, and takes 318.
 fn regular_response(setting: Setting, live: Live, at: u32, f: Response) -> Turned
     ensures { result ≡ regulars.regular_response setting live at f }
 {
@@ -39,19 +36,16 @@ fn regular_response(setting: Setting, live: Live, at: u32, f: Response) -> Turne
     let m = live.master;
     let t = scl::elapsed(at, m.start);
     let counted = samples::tallied(live.totals, w, Some(t));
-    let totals = counted.unwrap_or(live.totals);
-    let device = live.device;
     let master = fs_master::regular(m, at, f);
     Turned {
         live: Live {
-            totals,
-            device,
+            totals: counted.unwrap_or(live.totals),
             master,
-            unused: live.unused,
+            ..live
         },
         bin: counted.map(|_| histogram::bin(w, t)),
         master: scl::mark_of(true, master.released),
-        device: scl::mark_of(false, device.released),
+        device: scl::mark_of(false, live.device.released),
     }
 }
 
@@ -73,8 +67,6 @@ pub fn regular(setting: Setting, live: Live, happening: Happening) -> Turned
 {
     match happening {
         Happening::Response(at, f) => regular_response(setting, live, at, f),
-        Happening::Request(_, _) => still(live),
-        Happening::Clock(_) => still(live),
-        Happening::Operator(_, _, _) => still(live),
+        _ => still(live),
     }
 }

@@ -19,13 +19,13 @@ use signature::{Engine, Signing};
 pub(crate) fn port_at(b: Bench, port: u8) -> Port
     ensures { result ≡ ports.port_at b port }
 {
-    match place_of(port) {
-        Some(i) => b.ports[i],
-        None => new_port(),
-    }
+    place_of(port).map_or_else(new_port, |i| b.ports[i])
 }
 
-// The bench with another port in place i.
+// Here and below: `i` is the place of the port `p`, and `i < 8` is asked where `place_of` has just told it, by `below`. A type for the place would be taken
+// apart at `set`, which the definitions of specs/Storing.antt say of a number: no plainer.
+
+// The bench with another port in place i. Rust has no update of one place of an array by value.
 fn with_port(b: Bench, i: usize, p: Port) -> Bench
     requires { i < 8 }
     ensures { result ≡ record { ports = set b.ports i p } }
@@ -70,7 +70,8 @@ fn stepped(b: Bench, i: usize, p: Port, happening: Happening) -> BenchAfter
     }
 }
 
-// What a call asks of the port p in place i, with its reading.
+// What a call asks of the port p in place i, with its reading. By nested patterns, as `Ok(Act::Happens(happening))`, the proof didn't close: what the inner
+// one tells comes as an equation of encoded values, and not of `asked`. `happened` has the same match.
 #[tactic(auto, unfolding(crate::specs::Calls::done))]
 fn acted(b: Bench, i: usize, p: Port, at: u32, asked: Result<Act, Refusal>) -> BenchAfter
     requires { i < 8 }
@@ -102,6 +103,8 @@ fn happened(b: Bench, i: usize, p: Port, asked: Result<Act, Refusal>) -> BenchAf
     }
 }
 
+// In each call on a port: no `?` where a port has no place, as what comes back is the bench, too, and no Result. In the two that sign: a Signing borrows the
+// tables, so a function can't return it with them, and one that takes a closure of what follows is no plainer than the lines.
 pub fn set_parameters(engine: Engine, b: Bench, port: u8, at: u32, octets: &[u8]) -> BenchAfter
     ensures { result ≡ calls.set_parameters annex_d b port at octets.now }
 {
@@ -109,13 +112,7 @@ pub fn set_parameters(engine: Engine, b: Bench, port: u8, at: u32, octets: &[u8]
         return refused(b, Refusal::NoPort);
     };
     let short = signature::table_for::<u16>(engine);
-    let long = signature::table_for::<u32>(engine);
-    let signing = Signing {
-        engine,
-        short: &short,
-        long: &long,
-    };
-    let act = parameters_act(&signing, port, octets);
+    let act = parameters_act(engine, &short, port, octets);
     acted(b, i, b.ports[i], at, act)
 }
 

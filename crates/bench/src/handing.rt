@@ -14,6 +14,8 @@ use answer::{Answer, Refusal, refuse_if};
 use scl::Mark;
 use signature::Engine;
 
+// Engine, port, end, mark, SPDU and safe values stand one by one, as C gives them to the public functions (include/whakelouna.h, `whakelouna_handed_on`).
+
 // Two, as a response and a request have their counts in other fields, of other types.
 fn is_last_response(engine: Engine, p: Port, spdu: &[u8]) -> bool
     ensures { result ≡ handing.is_last_response annex_d p spdu.now }
@@ -51,8 +53,7 @@ fn allowed_mark(engine: Engine, end: End, p: Port, mark: Mark, spdu: &[u8]) -> M
     match mark {
         Mark::Fresh => unless_safe(mark, releases & is_last_at(engine, end, p, spdu)),
         Mark::GoesOn => unless_safe(mark, releases),
-        Mark::Safe => mark,
-        Mark::Nothing => mark,
+        Mark::Safe | Mark::Nothing => mark,
     }
 }
 
@@ -97,10 +98,7 @@ pub fn handed_on<'a>(
 ) -> &'a [u8]
     ensures { result.now ≡ handing.handed_on annex_d port (port_at b port) end mark spdu.now safe.now }
 {
-    match part_at(engine, port, port_at(b, port), end, mark, spdu, safe) {
-        Ok(part) => part,
-        Err(_) => &safe[..0],
-    }
+    part_at(engine, port, port_at(b, port), end, mark, spdu, safe).unwrap_or(&safe[..0])
 }
 
 // The same, copied to the front of out; 7 where out has no room for it.

@@ -63,18 +63,12 @@ pub fn split(b: Bench, port: u8, octets: &[u8]) -> Answer
 pub fn spdu_part(b: Bench, port: u8, octets: &[u8]) -> &[u8]
     ensures { result.now ≡ images.spdu_part port (port_at b port) octets.now }
 {
-    match running_at(b, port) {
-        Ok(p) => spdu::spdu_part(p.setting.params, octets),
-        Err(_) => &octets[..0],
-    }
+    running_at(b, port).map_or(&octets[..0], |p| spdu::spdu_part(p.setting.params, octets))
 }
 
 #[tactic(auto, unfolding(crate::specs::Images::other_part))]
 pub fn other_part(b: Bench, port: u8, octets: &[u8]) -> &[u8]
     ensures { result.now ≡ images.other_part port (port_at b port) octets.now }
 {
-    match running_at(b, port) {
-        Ok(p) => spdu::other_part(p.setting.params, octets),
-        Err(_) => &octets[..0],
-    }
+    running_at(b, port).map_or(&octets[..0], |p| spdu::other_part(p.setting.params, octets))
 }

@@ -35,8 +35,9 @@ pub use turns::{accepted, begun, turn};
 
 pub const PORT_COUNT: usize = 8;
 
-// What only an accepted block changes. `running`: parameters have been accepted. `unused` here and below stands where there would be padding: 0 in a new
-// bench, and no call touches it, so that two benches that are the same are so octet for octet.
+// What only an accepted block changes. `running`: parameters have been accepted; C reads it beside `params` (include/whakelouna.h), so this is no Option.
+// `unused` here and below stands where there would be padding: 0 in a new bench, and no call touches it, so that two benches that are the same are so octet
+// for octet.
 #[repr(C)]
 #[derive(Clone, Copy)]
 pub struct Setting {
@@ -45,7 +46,8 @@ pub struct Setting {
     pub unused: [u8; 7],
 }
 
-// What a happening changes: both ends, and all of the histogram but its bins.
+// What a happening changes: both ends, and all of the histogram but its bins. `turn`, `is_regular` and `regular` take it beside the setting, and no struct
+// of both: a session keeps the two in columns (`settings_of`, `lives_of`) and would make that struct for each record, which is no plainer.
 #[repr(C)]
 #[derive(Clone, Copy)]
 pub struct Live {

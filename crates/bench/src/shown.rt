@@ -42,7 +42,7 @@ fn bins_at(p: Port) -> Bins
     ensures { result ≡ shown.bins_at p }
 {
     let h = histogram_of(p);
-    // Named first, as the borrow check takes no array's field in a literal.
+    // By a variable: the check doesn't cover a field that is an array and is copied straight.
     let bins = h.bins;
     Bins {
         bins,
@@ -72,8 +72,8 @@ pub fn device_of(b: Bench, port: u8) -> Result<Device, Refusal>
     Ok(running_at(b, port)?.live.device)
 }
 
-// What is told, also of a refusal: what a port that never ran shows. Of a trend point `histogram::point_told` says it. Three, as C has a struct for each.
-
+// What C is told, also of a refusal: then what a port that never ran shows. This and the next two: one for each struct that C has (of a trend point:
+// `histogram::point_told`).
 pub fn bins_told(told: Result<Bins, Refusal>) -> Bins
     ensures { result ≡ shown.told_bins told }
 {

@@ -11,7 +11,7 @@ mod octets;
 
 use answer::{Answer, Refusal, refuse_if};
 use ranges::Described;
-use signature::{Engine, Signing};
+use signature::Engine;
 
 // An accepted block as it stands, under 000's names: all but its ID and the three signatures that are checked. The layers above read
 // FSP_Port, FSP_ProtMode, FSP_WatchdogTime (W) and the four lengths: InputDataLength is n, OutputDataLength p, SPDUInLength m, SPDUOutLength o.
@@ -129,9 +129,15 @@ impl Block {
     }
 }
 
-// Judges octets of any length, addressed to any port: the parameters of a block that is accepted, or why it is refused.
-pub fn judge_by(signing: &Signing, octets: &[u8], port: u8) -> Result<Params, Refusal>
-    ensures { result ≡ judged_by (parameters_by signing.now.engine signing.now.short.now) octets.now port }
+// Judges octets of any length, addressed to any port: the parameters of a block that is accepted, or why it is refused. It takes the short table
+// alone and no `Signing`, which would ask a caller for a long table that no block is signed by.
+pub fn judge_by(
+    engine: Engine,
+    short: &[u16; 256],
+    octets: &[u8],
+    port: u8,
+) -> Result<Params, Refusal>
+    ensures { result ≡ judged_by (parameters_by engine short.now) octets.now port }
 {
     refuse_if(ranges::outside(1, 8, port.into()), Refusal::NoPort)?;
     let Ok(octets) = <&[u8; 48]>::try_from(octets) else {
@@ -140,7 +146,7 @@ pub fn judge_by(signing: &Signing, octets: &[u8], port: u8) -> Result<Params, Re
     let b = Block::read(octets);
     b.id()?;
     b.fields()?;
-    b.agreement(Signatures::computed(signing, octets), port)?;
+    b.agreement(Signatures::computed(engine, short, octets), port)?;
     Ok(b.params)
 }
 
@@ -149,16 +155,7 @@ pub fn judge(engine: Engine, octets: &[u8], port: u8) -> Result<Params, Refusal>
     ensures { result ≡ judged octets.now port }
 {
     let short = signature::table_for::<u16>(engine);
-    let long = signature::table_for::<u32>(engine);
-    judge_by(
-        &Signing {
-            engine,
-            short: &short,
-            long: &long,
-        },
-        octets,
-        port,
-    )
+    judge_by(engine, &short, octets, port)
 }
 
 // The parameters of a port that has none: zeros.

@@ -5,8 +5,9 @@ ghost use Rattle.block.specs.Table22.{params_of, block_of, parameters_by};
 ghost use Rattle.block.specs.Table22 as table22;
 
 use crate::{Block, Params, Signatures};
-use signature::Signing;
+use signature::{Engine, sign_with};
 
+// Two functions of a line each: `from_be_bytes` is each type's own and takes its own number of octets, so a trait over both would be longer.
 fn unsigned16(s: &[u8; 48], at: usize) -> u16
     requires { at + 2 ≤ 48 }
     ensures { result ≡ octets.unsigned16 s.now at }
@@ -21,6 +22,7 @@ fn unsigned32(s: &[u8; 48], at: usize) -> u32
     u32::from_be_bytes([s[at], s[at + 1], s[at + 2], s[at + 3]])
 }
 
+// Three readings of one array, private to the crate: a `From` would be public.
 impl Params {
     fn read(s: &[u8; 48]) -> Params
         ensures { result ≡ params_of s.now }
@@ -68,13 +70,13 @@ impl Signatures {
     }
 
     // The signatures that the block should carry.
-    pub(crate) fn computed(signing: &Signing, s: &[u8; 48]) -> Signatures
-        ensures { result ≡ table22.computed (parameters_by signing.now.engine signing.now.short.now) s.now }
+    pub(crate) fn computed(engine: Engine, short: &[u16; 256], s: &[u8; 48]) -> Signatures
+        ensures { result ≡ table22.computed (parameters_by engine short.now) s.now }
     {
         Signatures {
-            FSP_AuthentCRC: signing.sign::<u16>(0, &s[14..23]),
-            FSP_IO_StructCRC: signing.sign::<u16>(0, &s[37..48]),
-            FSP_ProtParCRC: signing.sign::<u16>(0, &s[25..35]),
+            FSP_AuthentCRC: sign_with(engine, short, 0, &s[14..23]),
+            FSP_IO_StructCRC: sign_with(engine, short, 0, &s[37..48]),
+            FSP_ProtParCRC: sign_with(engine, short, 0, &s[25..35]),
         }
     }
 }

@@ -124,7 +124,7 @@ impl From<Result<Bins, Refusal>> for BinsTold {
 
     fn from(shown: Result<Bins, Refusal>) -> BinsTold {
         let told = bench::bins_told(shown);
-        // By a variable: the check doesn't cover a field that is an array and is copied straight.
+        // Named first, as the borrow check takes no array's field in a literal.
         let bins = told.bins;
         BinsTold {
             number: answer::number(shown),

@@ -17,6 +17,7 @@ pub struct FedTold {
     pub unused: [u8; 7],
 }
 
+// No `From`: neither type of the conversion is this crate's.
 fn stop_number(stop: Option<NoRecord>) -> u8
     ensures { result ≡ told.stop_number_of stop }
 {
@@ -28,15 +29,17 @@ fn stop_number(stop: Option<NoRecord>) -> u8
     }
 }
 
-fn fed_told(fed: Fed) -> FedTold
-    ensures { result ≡ told.fed_told fed }
-{
-    FedTold {
-        state: fed.state,
-        used: fed.used,
-        written: fed.written,
-        stop: stop_number(fed.stop),
-        unused: [0; 7],
+impl From<Fed> for FedTold {
+    ghost from_gives = { λ f t. t ≡ told.fed_told f };
+
+    fn from(fed: Fed) -> FedTold {
+        FedTold {
+            state: fed.state,
+            used: fed.used,
+            written: fed.written,
+            stop: stop_number(fed.stop),
+            unused: [0; 7],
+        }
     }
 }
 
@@ -58,7 +61,7 @@ pub extern "C" fn whakelouna_session_feed(
     ensures value { result ≡ told.fed_told (runs.fed_of st s.now (length out.old)) }
     ensures out_after { out.new ≡ runs.fed_text st s.now out.old }
 {
-    fed_told(session::feed(engine_of(shift), st, s, out))
+    FedTold::from(session::feed(engine_of(shift), st, s, out))
 }
 
 // Writes what is printed at the end, where some octets are left or none are, at the front of out, and returns how many octets that is.

@@ -263,12 +263,9 @@ impl Master {
     }
 }
 
-// The number of a row outside, 0 for none.
+// The number of a row outside, 0 for none. fs_device has its own, of its own rows: a trait over both would be longer than the line.
 pub fn row_number(row: Option<Row>) -> u8
     ensures { result ≡ table38.row_number_of row }
 {
-    match row {
-        Some(row) => row as u8,
-        None => 0,
-    }
+    row.map_or(0, |row| row as u8)
 }

@@ -151,7 +151,8 @@ pub fn counted(h: Histogram, w: u16, t: u16) -> Histogram
     }
 }
 
-// Two conversions, which lose nothing where the numbers are those of samples (proofs/Trends.antt), and one division.
+// Two conversions, which lose nothing where the numbers are those of samples (proofs/Trends.antt), and one division. They are functions of `std::num`,
+// as no method of u64 has this contract and a cast asks for a number below 2^53 (docs/DESIGN.md, "The mean's conversions").
 fn mean(sum: u64, total: u64) -> f64
     ensures { result ≡ mean_of sum total }
 {
@@ -183,12 +184,9 @@ pub fn trend_of(h: Histogram) -> Result<TrendPoint, Refusal>
 pub fn point_told(trend: Result<TrendPoint, Refusal>) -> TrendPoint
     ensures { result ≡ point_in trend }
 {
-    match trend {
-        Ok(point) => point,
-        Err(_) => TrendPoint {
-            mean: 0.0,
-            lowest: 0.0,
-            highest: 0.0,
-        },
-    }
+    trend.unwrap_or(TrendPoint {
+        mean: 0.0,
+        lowest: 0.0,
+        highest: 0.0,
+    })
 }

@@ -14,6 +14,8 @@ pub(crate) fn neither(a: u8, b: u8, x: u8) -> bool
     x != a && x != b
 }
 
+// A mode is FSP_ProtMode, an octet of `Params` that C reads and lends: each value but 1 reads as 2, and so it is no enum of two.
+
 // The octets of an SPDU that are not process data.
 pub fn safety_octets(mode: u8) -> u8
     ensures { result ≡ fields.safety_octets mode }

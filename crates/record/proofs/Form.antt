@@ -1,6 +1,6 @@
 -- What the form of a record says of its octets, and that more octets behind a record, or behind what is none, leave it so. Assumes nothing.
 use Prim.Native.Nat.{ℕ, ◌+◌, ◌*◌, ◌≤◌, ◌<◌}
-use mathlib.Core.Path.{◌≡◌, refl, sym, ◌∙◌}
+use mathlib.Core.Path.{◌≡◌, refl, sym, ap, ◌∙◌}
 use mathlib.Core.Bool.{Bool, true, false, cond, not, ◌&&◌}
 use mathlib.Core.List.{List, ◌++◌}
 use mathlib.Core.Logic.{⊎_elim, inl, inr, ◌⊎◌}
@@ -119,6 +119,12 @@ tests_of s q = whole_tests (eqb (length s) 0) (ltb (length s) head_octets) (head
 
 pub whole_fits : (s : List ℕ) → form s ≡ whole → size_of s ≤ length s
 whole_fits s q = ltb-false (length s) (size_of s) (tests_of s q).long
+
+-- what was read of a whole record has the kind of its number
+pub found_number : (s : List ℕ) (p : ℕ) (r : Record) → record_by (form s) s p ≡ Ok r → number_of r.kind ≡ kind_of s
+found_number s p r e =
+    let f = whole_found (form s) s p r e in
+    ap number_of f.kind ∙ numbered s (tests_of s f.is_whole_lem).right
 
 nothing_tests : (e n h l b : Bool) → form_by e n h l b ≡ nothing → e ≡ true
 nothing_tests true n h l b q = refl

@@ -29,7 +29,8 @@ impl TryFrom<u8> for Kind {
     }
 }
 
-// A whole record. Its octets stand from start to next, which is past it.
+// A whole record. Its octets stand from start to next, which is past it. No slice of them: the definition `record_by`, which `read_record` promises, has
+// both places, and reading goes on at next.
 #[derive(Clone, Copy, Debug, PartialEq, Eq)]
 pub struct Record {
     pub kind: Kind,

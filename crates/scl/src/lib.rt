@@ -120,7 +120,7 @@ pub fn first_failed(signature: bool, port: bool, count: bool) -> Option<Check>
     None
 }
 
-// MCommErr and CommErr: one failed.
+// MCommErr and CommErr: one failed. This function and `is_fresh` are public, and the definitions of their names and edits name them.
 pub fn is_failure(check: Option<Check>) -> bool
     ensures { result ≡ is_failure check }
 {
@@ -149,12 +149,10 @@ pub fn mark_number(mark: Mark) -> u8
     mark as u8
 }
 
-// 0 where none failed. A function, as rows and checks come in an Option and Rust lets no crate write a `From` of one for u8.
+// 0 where none failed. A function, as rows and checks come in an Option and Rust lets no crate write a `From` of one for u8; `mark_number` is one
+// too, as a call tells it beside these.
 pub fn check_number(check: Option<Check>) -> u8
     ensures { result ≡ check_number_of check }
 {
-    match check {
-        Some(check) => check as u8,
-        None => 0,
-    }
+    check.map_or(0, |check| check as u8)
 }

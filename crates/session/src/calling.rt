@@ -9,7 +9,8 @@ use bench::{Act, End, Setting};
 use record::{Kind, Record};
 use signature::Signing;
 
-// Of its octets, which stand behind its head. A record lends zeros as safe values, so they hold.
+// Of its octets, which stand behind its head. A record lends zeros as safe values, so they hold. `outside` stands beside the setting: an Option of the
+// setting, made from the flag, was tried and takes 3 instructions a record more.
 pub(crate) fn act_of(
     signing: &Signing,
     outside: bool,
@@ -19,9 +20,10 @@ pub(crate) fn act_of(
 ) -> Result<Act, Refusal>
     ensures { result ≡ runs.act_by (method_of signing.now.engine signing.now.short.now signing.now.long.now) outside setting (runs.entry (number_of found.kind) found.port found.clock octets.now) }
 {
-    // By returns: one match whose arms each make a Result costs 19 instructions a record more.
+    // By returns: one match whose arms each make a Result costs 19 instructions a record more. So a block has left before the match below, and its
+    // kind stands with the last arm there, for a match names every kind.
     if let Kind::Block = found.kind {
-        return bench::parameters_act(signing, found.port, octets);
+        return bench::parameters_act(signing.engine, signing.short, found.port, octets);
     }
     if outside {
         return Err(Refusal::NoPort);

@@ -22,7 +22,10 @@ pub struct State {
 }
 
 // After a chunk: how many of its octets are used up, how many were written, and why no whole record stands behind those that are used up: `Bad` is
-// a 13, and so is `Cut` where no chunk follows. Where one stands there, there may be no room for its line.
+// a 13, and so is `Cut` where no chunk follows. None: a whole record stands there, for whose line there is no room.
+//
+// `used` and `written` are lengths and no slices: C reads both (`FedTold` in export), and clauses of `feed` name them, `used_in_bounds` and
+// `written_in_bounds`.
 #[derive(Clone, Copy)]
 pub struct Fed {
     pub state: State,

@@ -1,5 +1,5 @@
 // A run over chunks of octets.
-ghost use Rattle.std.specs.Prelude.{◌≡◌, ℕ, ◌+◌, ◌<◌, ◌≤◌, Some, length};
+ghost use Rattle.std.specs.Prelude.{◌≡◌, ℕ, ◌+◌, ◌<◌, ◌≤◌, Some, Err, length};
 ghost use Rattle.io.specs.Counts.{IsPrefixLen};
 ghost use Rattle.session.specs.Run as runs;
 ghost use Rattle.session.specs.Text as lines;
@@ -8,7 +8,7 @@ ghost use Rattle.bench.specs.Columns as columns;
 use crate::calling::act_of;
 use crate::text::{port_lines, put};
 use crate::{Fed, State};
-use answer::{Answer, Refusal};
+use answer::Refusal;
 use bench::{Act, BIN_COUNT, PORT_COUNT};
 use lines::LINE_ROOM;
 use record::read_record;
@@ -28,28 +28,14 @@ pub fn start() -> State
     }
 }
 
-fn refused_after(refused: u64, answer: Answer) -> u64
-    ensures { result ≡ runs.refused_after refused answer }
-{
-    match answer {
-        Ok(()) => refused,
-        Err(_) => refused.saturating_add(1),
-    }
-}
-
-// The line of a refusal; an answer that is none has no line.
-fn say(out: &mut [u8], at: usize, number: u64, answer: Answer) -> usize
+// The line of a refusal.
+fn say(out: &mut [u8], at: usize, number: u64, refusal: Refusal) -> usize
     requires { at + lines.line_room ≤ length out.old }
-    ensures written { lines.Written out.old at (runs.line_for number answer) result out.new }
+    ensures written { lines.Written out.old at (runs.line_for number (Err refusal)) result out.new }
     ensures at_most_a_line { result ≤ at + lines.line_room }
 {
-    match answer {
-        Ok(()) => at,
-        Err(refusal) => {
-            let line = lines::refusal_line(number, refusal.number());
-            put(out, at, line.as_octets())
-        }
-    }
+    let line = lines::refusal_line(number, refusal.number());
+    put(out, at, line.as_octets())
 }
 
 // One more in the bin that a turn of the port at k raises, if it raises one.
@@ -87,10 +73,7 @@ pub fn feed(engine: Engine, st: State, s: &[u8], out: &mut [u8]) -> Fed
     let mut at = 0;
     let mut written = 0;
     // A `for` would need a count beside it: how many records were taken is wanted behind the loop.
-    loop {
-        if left == 0 {
-            break;
-        }
+    while left > 0 {
         let Ok(found) = read_record(s, at) else {
             break;
         };
@@ -103,29 +86,27 @@ pub fn feed(engine: Engine, st: State, s: &[u8], out: &mut [u8]) -> Fed
         left -= 1;
         match act {
             Err(refusal) => {
-                refused = refused_after(refused, Err(refusal));
+                refused = refused.saturating_add(1);
                 let number = st.records.saturating_add((room - left) as u64);
-                written = say(out, written, number, Err(refusal));
+                written = say(out, written, number, refusal);
             }
-            Ok(act) => match act {
-                Act::Accepted(params) => {
-                    settings[k] = bench::accepted(setting, params);
-                    lives[k] = bench::begun(lives[k], found.clock);
-                    bins[k] = [0; BIN_COUNT];
+            Ok(Act::Accepted(params)) => {
+                settings[k] = bench::accepted(setting, params);
+                lives[k] = bench::begun(lives[k], found.clock);
+                bins[k] = [0; BIN_COUNT];
+            }
+            Ok(Act::Happens(happening)) => {
+                // Nearly every record's turn is told first, for the compiler (bench, src/by_t4.rt).
+                if bench::is_regular(setting, lives[k], happening) {
+                    let turned = bench::regular(setting, lives[k], happening);
+                    lives[k] = turned.live;
+                    raise(&mut bins, k, turned.bin);
+                } else {
+                    let turned = bench::turn(setting, lives[k], happening);
+                    lives[k] = turned.live;
+                    raise(&mut bins, k, turned.bin);
                 }
-                Act::Happens(happening) => {
-                    // Nearly every record's turn is told first, for the compiler (bench, src/by_t4.rt).
-                    if bench::is_regular(setting, lives[k], happening) {
-                        let turned = bench::regular(setting, lives[k], happening);
-                        lives[k] = turned.live;
-                        raise(&mut bins, k, turned.bin);
-                    } else {
-                        let turned = bench::turn(setting, lives[k], happening);
-                        lives[k] = turned.live;
-                        raise(&mut bins, k, turned.bin);
-                    }
-                }
-            },
+            }
         }
     }
     let state = State {
@@ -147,7 +128,7 @@ fn thirteen(out: &mut [u8], some: bool, records: u64) -> usize
     ensures at_most_a_line { result ≤ lines.line_room }
 {
     if some {
-        say(out, 0, records.saturating_add(1), Err(Refusal::Record))
+        say(out, 0, records.saturating_add(1), Refusal::Record)
     } else {
         0
     }

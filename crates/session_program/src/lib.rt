@@ -37,7 +37,11 @@ pub enum Going {
     Stopped,
 }
 
-// After a chunk. `left`: how many octets that are no whole record stand behind those that were read.
+// After a chunk. `left`: how many octets that are no whole record stand behind those that were read. No slice of them: they stand at the front of the
+// fixed buffer of `run`, which is lent whole for the next chunk, and the definitions under `Ended`, which `run` promises, name `left`.
+//
+// What room the buffers have is said by the three functions that need it, and by no type over both: those definitions speak of one buffer, before and
+// after, and must-fail/buffer_of_100.edit makes a buffer that is too small.
 #[derive(Clone, Copy)]
 struct Chunk {
     state: State,
@@ -90,6 +94,7 @@ fn use_records(program: Program, st: State, buf: &mut [u8], to: usize, out: &mut
         match fed.stop {
             None => {}
             Some(NoRecord::Bad) => return keep(state, buf, from, to, Going::Over),
+            // `Cut | End` in one arm was tried: the proof didn't close, for want of a name for which of the two came.
             Some(NoRecord::Cut) => return keep(state, buf, from, to, Going::On),
             Some(NoRecord::End) => return keep(state, buf, from, to, Going::On),
         }

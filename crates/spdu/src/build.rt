@@ -6,7 +6,7 @@ ghost use Rattle.spdu.specs.Built as built;
 
 use crate::control::{Control, Status};
 use crate::read::replace;
-use answer::{Answer, Refusal};
+use answer::{Answer, Refusal, refuse_if};
 use block::Params;
 use signature::Signing;
 
@@ -26,7 +26,7 @@ fn seal(signing: &Signing, mode: u8, process: &[u8], port: u8, control: u8) -> u
     }
 }
 
-// Port number, control octet and signature, behind the process octets that they stand for.
+// Port number, control octet and signature, behind the process octets that they stand for. Two branches, as the modes' trailers have two lengths.
 fn write_trailer(
     signing: &Signing,
     mode: u8,
@@ -77,11 +77,9 @@ pub fn build_request_by(
     ensures value { result ≡ built.built_as (built.buffers_hold p.FSP_ProtMode p.SPDUOutLength (length process.now) (length out.old)) }
     ensures out_after { out.new ≡ built.request_built (by_engine signing.now.engine signing.now.short.now signing.now.long.now) p control.MCount control.setSD control.ChFAckReq process.now out.old }
 {
-    if !buffers_hold(p.FSP_ProtMode, p.SPDUOutLength, process.len(), out.len()) {
-        return Err(Refusal::Buffer);
-    }
-    let n = process.len();
-    let (sent, trailer) = out.split_at_mut(n);
+    let holds = buffers_hold(p.FSP_ProtMode, p.SPDUOutLength, process.len(), out.len());
+    refuse_if(!holds, Refusal::Buffer)?;
+    let (sent, trailer) = out.split_at_mut(process.len());
     write_process(control.setSD, process, sent);
     write_trailer(
         signing,
@@ -108,12 +106,10 @@ pub fn build_response_by(
     ensures value { result ≡ built.built_as (built.buffers_hold p.FSP_ProtMode p.SPDUInLength (length process.now) (length out.old)) }
     ensures out_after { out.new ≡ built.response_built (by_engine signing.now.engine signing.now.short.now signing.now.long.now) p responded status.DCount_i status.SDset status.DCommErr status.DTimeout process.now out.old }
 {
-    if !buffers_hold(p.FSP_ProtMode, p.SPDUInLength, process.len(), out.len()) {
-        return Err(Refusal::Buffer);
-    }
+    let holds = buffers_hold(p.FSP_ProtMode, p.SPDUInLength, process.len(), out.len());
+    refuse_if(!holds, Refusal::Buffer)?;
     if responded {
-        let n = process.len();
-        let (sent, trailer) = out.split_at_mut(n);
+        let (sent, trailer) = out.split_at_mut(process.len());
         sent.copy_from_slice(process);
         write_trailer(
             signing,

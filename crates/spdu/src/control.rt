@@ -25,6 +25,7 @@ fn bit(b: bool, weight: u8) -> u8
     if b { weight } else { 0 }
 }
 
+// Both methods `octet` are private to the crate, which a `From` can't be.
 impl Control {
     pub(crate) fn octet(self) -> u8
         ensures { result ≡ built.control_octet self.MCount self.setSD self.ChFAckReq }

@@ -7,7 +7,7 @@ ghost use Rattle.spdu.specs.Image as image;
 use crate::build::{buffers_hold, build_request_by};
 use crate::control::Control;
 use crate::read::{all_zero, process_octets};
-use answer::{Answer, Refusal};
+use answer::{Answer, Refusal, refuse_if};
 use block::Params;
 use scl::Mark;
 use signature::Signing;
@@ -34,9 +34,8 @@ pub fn compose_by(
     ensures value { result ≡ built_as (image.composer_holds p (length process.now) (length other.now) (length octets.old)) }
     ensures octets_after { octets.new ≡ image.composed (by_engine signing.now.engine signing.now.short.now signing.now.long.now) p control.MCount control.setSD control.ChFAckReq process.now other.now octets.old }
 {
-    if !composer_holds(p, process.len(), other.len(), octets.len()) {
-        return Err(Refusal::Buffer);
-    }
+    let holds = composer_holds(p, process.len(), other.len(), octets.len());
+    refuse_if(!holds, Refusal::Buffer)?;
     let (spdu, rest) = octets.split_at_mut(p.SPDUOutLength as usize);
     build_request_by(signing, p, control, process, spdu)?;
     rest.copy_from_slice(other);
@@ -53,11 +52,7 @@ fn splitter_holds(p: Params, n: usize) -> bool
 pub fn split(p: Params, octets: &[u8]) -> Answer
     ensures { result ≡ built_as (image.splitter_holds p (length octets.now)) }
 {
-    if splitter_holds(p, octets.len()) {
-        Ok(())
-    } else {
-        Err(Refusal::Buffer)
-    }
+    refuse_if(!splitter_holds(p, octets.len()), Refusal::Buffer)
 }
 
 // The SPDU and the other data; of an image of another length nothing.

@@ -2,6 +2,8 @@
 //
 // A function whose name ends in `_by` takes a `Signing`, an engine with the two signature tables lent, so that a loop names them once; it takes any
 // tables. The others take the engine alone.
+//
+// A mode is FSP_ProtMode, an octet of `Params` that C reads and lends: each value but 1 reads as 2, and so it is no enum of two.
 #![tactic(auto)]
 
 mod build;

@@ -41,16 +41,14 @@ pub(crate) fn replace(x: u32) -> u32
     x.max(1)
 }
 
-// A loop: `s.iter().all(|&x| x == 0)` was tried and proves, but takes some five instructions a record more.
+// By `s.iter().all(|&x| x == 0)`, which was tried and proves, it takes some five instructions a record more.
 pub(crate) fn all_zero(s: &[u8]) -> bool
     ensures { result ≡ places.is_all_zero s.now }
 {
-    let mut i = 0;
-    while i < s.len() {
-        if s[i] != 0 {
+    for x in s {
+        if *x != 0 {
             return false;
         }
-        i += 1;
     }
     true
 }
@@ -64,6 +62,7 @@ struct Trailer {
 }
 
 // The signature that an SPDU carries, from `at` on: 2 behind the process octets. Where all its octets are there they are read at once.
+// Four arms, as the modes' signatures have two lengths, and an octet that may be missing is read in another way.
 fn carried(mode: u8, s: &[u8], at: usize) -> u32
     requires { at ≤ length s.now + 2 }
     ensures { result ≡ places.carried_at mode s.now at }
@@ -109,7 +108,7 @@ fn trailer_in<const MODE: u8>(signing: &Signing, s: &[u8]) -> Trailer
     }
 }
 
-// Any mode but 1 reads as 2.
+// Any mode but 1 reads as 2. Two branches, as the trailers have two lengths and `trailer_in` takes the mode as a constant.
 fn trailer_by(signing: &Signing, mode: u8, s: &[u8]) -> Trailer
     ensures { result ≡ fields.trailer_of (by_engine signing.now.engine signing.now.short.now signing.now.long.now) mode s.now }
 {
@@ -140,6 +139,7 @@ pub fn response_fields_by(signing: &Signing, p: Params, s: &[u8]) -> Response
     }
 }
 
+// `response_by` and `request_by` say what an SPDU of another length reads as, and C's structs have it: so neither function has an Option.
 pub fn read_response_by(signing: &Signing, p: Params, s: &[u8]) -> Response
     ensures { result ≡ fields.response_by (by_engine signing.now.engine signing.now.short.now signing.now.long.now) p s.now }
 {

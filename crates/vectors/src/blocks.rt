@@ -176,6 +176,7 @@ impl Octets {
     }
 }
 
+// Number and offset, and no Told: a row has both among its numbers, and at nine calls a Told's literal takes four lines where `1, 0` stands.
 fn judged(run: Run, name: &str, octets: &[u8], port: u8, number: u8, offset: u8) {
     let answer = block::judge(run.engine, octets, port);
     let paper = Told { number, offset };

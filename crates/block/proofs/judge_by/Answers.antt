@@ -17,7 +17,7 @@ returns-in_err-fields c =
     let known : outside 1 8 c.args.port ≡ false = cc in
     rw (p.1, p.2)
     (ap (λ (a : Answer). with_value a (params_of c.args.octets.now))
-    (fields_refuse (parameters_by c.args.signing.now.engine c.args.signing.now.short.now) c.args.octets.now c.args.port known c.in-Ok.ensures.1.long
+    (fields_refuse (parameters_by c.args.engine c.args.short.now) c.args.octets.now c.args.port known c.in-Ok.ensures.1.long
     (c.read-b.ensures ∙ ap block_of c.in-Ok.ensures.1.same) c.in_ok-id.ensures c.in_err-fields.ensures))
 
 pub returns-in_err-agreement : goal.returns-in_err-agreement
@@ -25,7 +25,7 @@ returns-in_err-agreement c =
     let p = err_from_is_err_and c.from_residual-in_err-agreement.result c.from_residual-in_err-agreement.ensures.1 in
     let k : c.outside.result ≡ false = kept_rule c.outside.result NoPort c.in_ok-refuse_if.ensures in
     let known : outside 1 8 c.args.port ≡ false = cc in
-    let sign = parameters_by c.args.signing.now.engine c.args.signing.now.short.now in
+    let sign = parameters_by c.args.engine c.args.short.now in
     rw (p.1, p.2)
     (ap (λ (a : Answer). with_value a (params_of c.args.octets.now))
     (agreement_answers sign c.args.octets.now c.args.port known c.in-Ok.ensures.1.long (c.read-b.ensures ∙ ap block_of c.in-Ok.ensures.1.same)
@@ -35,7 +35,7 @@ pub returns : goal.returns
 returns c =
     let k : c.outside.result ≡ false = kept_rule c.outside.result NoPort c.in_ok-refuse_if.ensures in
     let known : outside 1 8 c.args.port ≡ false = cc in
-    let sign = parameters_by c.args.signing.now.engine c.args.signing.now.short.now in
+    let sign = parameters_by c.args.engine c.args.short.now in
     let b : c.read-b.result ≡ block_of c.args.octets.now = c.read-b.ensures ∙ ap block_of c.in-Ok.ensures.1.same in
     ap (λ (x : Block). with_value Taken x.params) b
     ∙ ap (λ (a : Answer). with_value a (params_of c.args.octets.now))

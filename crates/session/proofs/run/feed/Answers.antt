@@ -18,7 +18,7 @@ use Rattle.lines.proofs.Written.{none}
 use Rattle.session.proofs.Link.{stopped, stop_read}
 use Rattle.session.proofs.Going.{starts, goes_on}
 use Rattle.session.proofs.run.feed.Goals as goal
-use Rattle.session.proofs.run.feed.Goals.{then-left-eq0, else-left-eq0+in_default}
+use Rattle.session.proofs.run.feed.Goals.{else-loop-left-test, then-loop-left-test+in_default}
 
 -- what is read where the loop is left is no whole record
 not_whole : (f : Form) (s : List ℕ) (p : ℕ) → ((r : Record) → record_by f s p ≡ Ok r → ⊥) → is_whole f ≡ false
@@ -41,21 +41,21 @@ loop-left-preserved-in-Err c =
     let tables = right_methods _ _ _ c.table_for-short.ensures.serves c.table_for-long.ensures.serves in
     let e = c.in-Err.is in
     let said = c.say-written in
-    goes_on l.invariant (omega (arith, c.if-left-eq0.false)) (sym c.read_record.ensures ∙ c.in-Ok.is) k below o no_port.setting no_port.live tables c.act_of-act.ensures
+    goes_on l.invariant (omega (arith, c.loop-left-test.true)) (sym c.read_record.ensures ∙ c.in-Ok.is) k below o no_port.setting no_port.live tables c.act_of-act.ensures
     (refused _ _ _ _ _ l.invariant.eight below no_port.setting no_port.live e refl refl refl)
-    (c.refused_after-refused.ensures ∙ ap (λ (a : Result Act Refusal). refused_after l.refused (answer_in a)) (sym e))
+    (c.saturating_add-refused.ensures ∙ ap (λ (a : Result Act Refusal). refused_after l.refused (answer_in a)) (sym e))
     (rw (← c.saturating_add-number.ensures, e) said.ensures.written) said.ensures.at_most_a_line (omega (arith, said.auto))
 
-pub loop-left-preserved-in-Accepted : goal.loop-left-preserved-in-Accepted
+pub loop-left-preserved-in-Ok-Accepted : goal.loop-left-preserved-in-Ok-Accepted
 unfolding no_port
-loop-left-preserved-in-Accepted c =
+loop-left-preserved-in-Ok-Accepted c =
     let l = c.loop-left in
     let k = c.unwrap_or-k.ensures ∙ place_index c.in-Ok.found.port c.place_of-place.ensures.value in
     let below : c.unwrap_or-k.result < 8 = rw k (index_below c.in-Ok.found.port) in
     let o = place_outside c.in-Ok.found.port c.place_of-place.ensures.value c.is_none.ensures in
     let tables = right_methods _ _ _ c.table_for-short.ensures.serves c.table_for-long.ensures.serves in
-    let e = c.in-Ok-act.is ∙ ap (λ (a : Act). Ok a) c.in-Accepted.is in
-    goes_on l.invariant (omega (arith, c.if-left-eq0.false)) (sym c.read_record.ensures ∙ c.in-Ok.is) k below o no_port.setting no_port.live tables c.act_of-act.ensures
+    let e = c.in-Ok-Accepted.is ∙ ap (λ (a : Act). Ok a) (rw c.in-Ok-Accepted.is at c.in-Ok-Accepted.field-0-is) in
+    goes_on l.invariant (omega (arith, c.loop-left-test.true)) (sym c.read_record.ensures ∙ c.in-Ok.is) k below o no_port.setting no_port.live tables c.act_of-act.ensures
     (accepted _ _ _ _ _ l.invariant.eight below no_port.setting no_port.live e
     (ap (λ (y : Setting). set l.settings c.unwrap_or-k.result y) c.accepted.ensures)
     (ap (λ (y : Live). set l.lives c.unwrap_or-k.result y) c.begun.ensures) refl)
@@ -75,8 +75,8 @@ loop-left-preserved-then-is_regular c =
     let below : c.unwrap_or-k.result < 8 = rw k (index_below c.in-Ok.found.port) in
     let o = place_outside c.in-Ok.found.port c.place_of-place.ensures.value c.is_none.ensures in
     let tables = right_methods _ _ _ c.table_for-short.ensures.serves c.table_for-long.ensures.serves in
-    let e = c.in-Ok-act.is ∙ ap (λ (a : Act). Ok a) c.in-Happens.is in
-    goes_on l.invariant (omega (arith, c.if-left-eq0.false)) (sym c.read_record.ensures ∙ c.in-Ok.is) k below o no_port.setting no_port.live tables c.act_of-act.ensures
+    let e = c.in-Ok-Happens.is ∙ ap (λ (a : Act). Ok a) (rw c.in-Ok-Happens.is at c.in-Ok-Happens.field-0-is) in
+    goes_on l.invariant (omega (arith, c.loop-left-test.true)) (sym c.read_record.ensures ∙ c.in-Ok.is) k below o no_port.setting no_port.live tables c.act_of-act.ensures
     (happened _ _ _ _ _ l.invariant.eight below no_port.setting no_port.live _ _ (c.regular-turned.ensures ∙ regular_turn _ _ _ (sym c.is_regular.ensures ∙ c.if-is_regular.true)) e refl refl c.raise.ensures)
     (ap (λ (a : Result Act Refusal). refused_after l.refused (answer_in a)) (sym e))
     (rw e (none _ _)) (omega arith) refl
@@ -92,8 +92,8 @@ loop-left-preserved c =
     let below : c.unwrap_or-k.result < 8 = rw k (index_below c.in-Ok.found.port) in
     let o = place_outside c.in-Ok.found.port c.place_of-place.ensures.value c.is_none.ensures in
     let tables = right_methods _ _ _ c.table_for-short.ensures.serves c.table_for-long.ensures.serves in
-    let e = c.in-Ok-act.is ∙ ap (λ (a : Act). Ok a) c.in-Happens.is in
-    goes_on l.invariant (omega (arith, c.if-left-eq0.false)) (sym c.read_record.ensures ∙ c.in-Ok.is) k below o no_port.setting no_port.live tables c.act_of-act.ensures
+    let e = c.in-Ok-Happens.is ∙ ap (λ (a : Act). Ok a) (rw c.in-Ok-Happens.is at c.in-Ok-Happens.field-0-is) in
+    goes_on l.invariant (omega (arith, c.loop-left-test.true)) (sym c.read_record.ensures ∙ c.in-Ok.is) k below o no_port.setting no_port.live tables c.act_of-act.ensures
     (happened _ _ _ _ _ l.invariant.eight below no_port.setting no_port.live _ _ c.turn-turned.ensures e refl refl c.raise-else-is_regular.ensures)
     (ap (λ (a : Result Act Refusal). refused_after l.refused (answer_in a)) (sym e))
     (rw e (none _ _)) (omega arith) refl
@@ -104,9 +104,9 @@ returns c =
     let l = c.loop-left in
     let s = drop l.at x.s.now in
     let e : (l.left ≡ 0) ⊎ (is_whole (form s) ≡ false) =
-    elim c.if-left-eq0.branch [
-      | then-left-eq0 w ↦ inl w.if-left-eq0.true
-      | else-left-eq0+in_default w ↦ inr (not_whole (form s) s l.at (λ r h. w.in_default.not-Ok r (w.read_record.ensures ∙ h)))
+    elim c.loop-left-test.branch [
+      | else-loop-left-test w ↦ inl (omega (arith, w.loop-left-test.false))
+      | then-loop-left-test+in_default w ↦ inr (not_whole (form s) s l.at (λ r h. w.in_default.not-Ok r (w.read_record.ensures ∙ h)))
     ] in
     let p = stopped l.invariant.link refl l.invariant.within (omega (arith, l.invariant.kept, l.invariant.fits)) e in
     rw (c.packed.ensures, c.saturating_add.ensures, c.err.ensures.value ∙ stop_read (form s) s l.at c.read_record-2.ensures)
