@@ -4,6 +4,7 @@ ghost use Rattle.gf2.specs.Generators.{generator32};
 ghost use Rattle.signature.specs.Lookup.{look_up};
 ghost use Rattle.std.proofs.Common.{rules};
 
+use crate::by_shift::long_turn;
 use crate::{Register, Signing};
 
 // 000 Table D.7, its first 16 entries.
@@ -55,12 +56,7 @@ impl Register for u32 {
         look_up32(table, half)
     }
 
-    // 000 Figure D.5.
     fn turn(self, bit: bool) -> u32 {
-        if (self & 0x80000000 != 0) != bit {
-            (self << 1) ^ 0xF4ACFB13
-        } else {
-            self << 1
-        }
+        long_turn(self, bit)
     }
 }

@@ -2,6 +2,7 @@
 ghost use Rattle.gf2.specs.Generators.{generator16};
 ghost use Rattle.std.proofs.Common.{rules};
 
+use crate::by_shift::short_turn;
 use crate::{Register, Signing};
 
 // 000 Table D.4.
@@ -64,12 +65,7 @@ impl Register for u16 {
         table[(((register >> 8) ^ (x as u16)) % 256) as usize] ^ (register << 8)
     }
 
-    // 000 Figure D.3.
     fn turn(self, bit: bool) -> u16 {
-        if (self & 0x8000 != 0) != bit {
-            (self << 1) ^ 0x4EAB
-        } else {
-            self << 1
-        }
+        short_turn(self, bit)
     }
 }
