@@ -5,19 +5,37 @@ ghost use Rattle.lines.specs.Text.{line_of, pair};
 use std::marker::Model;
 
 // A text at the front of its octets; zeros behind it.
-#[derive(Drop)]
+#[derive(Clone, Copy)]
 pub struct Line<const ROOM: usize> {
     octets: [u8; ROOM],
     length: usize,
 }
 
-// Clauses see the text.
+// Clauses see the text. Of the text alone the fields can be told, as a value that is copied asks.
 impl<const ROOM: usize> Model for Line<ROOM> {
+    ghost use Rattle.std.specs.Prelude.{◌≡◌, List, ℕ, ◌-◌, ◌≤◌, take, replicate};
+    ghost use Rattle.std.specs.Prelude as prelude;
+    ghost use Rattle.std.proofs.Common.{arith, sym, ap, length-append, length-take-le};
+    ghost use Rattle.std.proofs.lemmas.List.{length-replicate};
+    ghost use Rattle.lines.specs.Text.{line_of};
+
     ghost Value = { List ℕ };
 
     ghost view = { λ l. take l.length l.octets };
 
     ghost invariant = { λ l. (l.length ≤ ROOM) × (l.octets ≡ line_of ROOM (take l.length l.octets)) };
+
+    ghost inverse = { λ text. record { octets = line_of ROOM text; length = prelude.length text } };
+
+    ghost inverse_ok = { λ l h i.
+      let text : List ℕ = take l.length l.octets in
+      let room : ℕ = ROOM - prelude.length text in
+      let zero : ℕ = 0 in
+      record {
+        octets = sym h.1 i;
+        length = length-take-le l.length l.octets (omega (arith, h.0, ap prelude.length h.1, length-append text (replicate room zero), length-replicate room zero)) i;
+      }
+    };
 }
 
 impl<const ROOM: usize> Line<ROOM> {
