@@ -1,12 +1,12 @@
 -- Texts written one behind the other are one text. Assumes nothing.
-use Prim.Native.Nat.{ℕ, ◌+◌, ◌-◌, ◌≤◌}
+use Prim.Native.Nat.{ℕ, ◌+◌, ◌-◌, ◌≤◌, min}
 use mathlib.Core.Path.{◌≡◌, refl, sym, ap, ◌∙◌}
 use mathlib.Core.List.{List, [], ◌++◌, append_assoc, append-nil}
 use native.Mathlib.Omega.{arith}
 use lib.ListN.{length, take, drop, replicate, length-append, length-drop, take-append-drop, drop_of_length-le}
 use lib.Seq.{drop-drop, take-length, take_all, take_at, drop_at, take-append_seam, length-take-le}
 use borrow.Rule.Slice.PartMut.{mid_of, put_mid}
-use Rattle.std.proofs.lemmas.List.{drop-replicate}
+use Rattle.std.proofs.lemmas.List.{drop-replicate, length-take}
 use Rattle.lines.specs.Text.{Written, line_of}
 
 pub none : (b : List ℕ) (at : ℕ) → Written b at [] at b
@@ -45,12 +45,9 @@ copied b text ys at h e =
 pub line_text : (room : ℕ) (t : List ℕ) → take (length t) (line_of room t) ≡ t
 line_text room t = rw take-append_seam
 
--- a text pushed behind the text v that stands in a room, as a store of its octets
-module _ (room n : ℕ) {o v t y : List ℕ} (view : take n o ≡ v) (within : n ≤ room) (all : length o ≡ room) (zeros : o ≡ line_of room (take n o))
-    (fits : length v + length t ≤ room) (stored : y ≡ t) where
-  abbrev after : List ℕ
-  after = put_mid n (n + length t - n) o y
-
+-- a text t pushed behind the text v that stands in a room: copied there, as octets are
+module _ (room n : ℕ) {o v : List ℕ} (t : List ℕ) (view : take n o ≡ v) (within : n ≤ room) (all : length o ≡ room) (zeros : o ≡ line_of room (take n o))
+    (fits : length v + length t ≤ room) where
   size : length v ≡ n
   size = ap length (sym view) ∙ length-take-le n o (omega arith)
 
@@ -60,15 +57,24 @@ module _ (room n : ℕ) {o v t y : List ℕ} (view : take n o ≡ v) (within : n
       let behind : drop n o ≡ replicate (room - length v) 0 = ap (λ (x : List ℕ). drop n x) (rw view at zeros) ∙ drop_at v (replicate (room - length v) 0) n size in
       ap (λ (x : List ℕ). drop (length t) x) behind ∙ drop-replicate (length t) (room - length v) 0 ∙ ap (λ (i : ℕ). replicate i 0) left
 
-  line_after : after ≡ line_of room (v ++ t)
-  line_after =
-      let m : n + length t - n ≡ length t = omega arith in
-      rw (stored, m, view, post) (sym (append_assoc v t (replicate (room - length (v ++ t)) 0)))
+  -- there is room for all of it
+  pub fitting : {k : ℕ} → k ≡ min (length t) (length (mid_of n (length o - n) o)) → k ≡ length t
+  fitting {k} h = omega (arith, size, simp (length-take, length-drop) at h)
 
-  pub pushed : take (n + length t) after ≡ v ++ t
-  pushed =
-      ap (λ (x : List ℕ). take (n + length t) x) line_after
-      ∙ take_at (v ++ t) (replicate (room - length (v ++ t)) 0) (n + length t) (omega (arith, size, length-append v t))
+  module _ {y : List ℕ} (stored : y ≡ take (length t) t ++ drop (length t) (mid_of n (length o - n) o)) where
+    abbrev after : List ℕ
+    after = put_mid n (length o - n) o y
 
-  pub kept : (n + length t ≤ room) × (after ≡ line_of room (take (n + length t) after))
-  kept = (omega (arith, size), line_after ∙ ap (λ (x : List ℕ). line_of room x) (sym pushed))
+    written : Written o n t (n + length t) after
+    written = copied o t y n (omega (arith, size)) stored
+
+    pub pushed : take (n + length t) after ≡ v ++ t
+    pushed = written.front ∙ ap (λ (x : List ℕ). x ++ t) view
+
+    line_after : after ≡ line_of room (v ++ t)
+    line_after =
+        let behind : drop (n + length t) after ≡ replicate (room - length (v ++ t)) 0 = written.behind ∙ sym (drop-drop (length t) n o) ∙ post in
+        sym (take-append-drop (n + length t) after) ∙ rw (pushed, behind)
+
+    pub kept : (n + length t ≤ room) × (after ≡ line_of room (take (n + length t) after))
+    kept = (omega (arith, size), line_after ∙ ap (λ (x : List ℕ). line_of room x) (sym pushed))

@@ -58,10 +58,8 @@ impl<const ROOM: usize> Line<ROOM> {
         requires { length self.old + length text.now ≤ ROOM }
         ensures { self.new ≡ self.old ++ text.now }
     {
-        let end = self.length + text.len();
-        let octets = &mut self.octets[..];
-        octets[self.length..end].copy_from_slice(text);
-        self.length = end;
+        let room = &mut self.octets[..];
+        self.length += octets::copy(text, &mut room[self.length..]);
     }
 
     // A word, and the number behind it: 20 digits at most.
