@@ -15,7 +15,8 @@ pub fn port_mode(mode: u8) -> Answer
         5..=48 => Err(Refusal::PortMode),
         49..=50 => Ok(()),
         51 => Err(Refusal::NoScl),
-        52..=255 => Err(Refusal::PortMode),
+        52..=96 => Err(Refusal::PortMode),
+        97..=255 => Err(Refusal::PortMode),
     }
 }
 
