@@ -63,7 +63,8 @@ fn received(m: Master, watchdog: Option<Row>, at: u32, f: Response) -> Outcome
     }
 }
 
-// The master once its watchdog has been looked at, which led to this row.
+// The master once its watchdog has been looked at, which led to this row. Inlined, as are `watchdog_row` and `acted`: which row it was is then tested once.
+#[inline(always)]
 #[tactic(auto, unfolding(crate::specs::Calls::watched_by))]
 fn watched(m: Master, watchdog: Option<Row>, at: u32) -> Master
     ensures { result ≡ calls.watched_by m watchdog at }

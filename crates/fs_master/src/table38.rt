@@ -37,6 +37,7 @@ pub(crate) fn has_faults(MCommErr: bool, f: Response) -> bool
 
 impl Master {
     // MTimeout: T8 from 5, T14 from 7.
+    #[inline(always)]
     #[tactic(auto, unfolding(crate::specs::Table38::watchdog_row))]
     pub(crate) fn watchdog_row(self, w: u16, at: u32) -> Option<Row>
         ensures { result ≡ table38.watchdog_row self w at }
@@ -236,6 +237,7 @@ impl Master {
         }
     }
 
+    #[inline(always)]
     #[tactic(auto, unfolding(crate::specs::Table38::acted))]
     pub(crate) fn acted(self, row: Row, at: u32, SDset: bool) -> Master
         ensures { result ≡ table38.acted self row at SDset }
