@@ -70,7 +70,7 @@ after_of b r = record { bench = b; reply = r }
 
 module _ (l : List Port) (n at : ℕ) (act : Port → Result Act Refusal) where
   placed_by : (o : Bool) → (o ≡ true → (p : Port) → act p ≡ Err refusals.NoPort)
-      → (let q = get_or l (cond o 0 n) no_port in after_of (bench_of (act_ports l (cond o 0 n) at (act q))) (calls.done q at (act q)).reply)
+      → (let k = unwrap_or (cond o None (Some n)) 0 in let q = get_or l k no_port in after_of (bench_of (act_ports l k at (act q))) (calls.done q at (act q)).reply)
       ≡ (let p = cond o new_port (get_or l n no_port) in let r = calls.done p at (act p) in
       after_of (cond (is_taken r.reply.answer) (cond o (bench_of l) (bench_of (set l n r.port))) (bench_of l)) r.reply)
   unfolding calls.done silent

@@ -48,14 +48,14 @@ use Rattle.bench.specs.Calls as calls
 use Rattle.bench.specs.Images.{compose_answer, composed, build_answer, response_out, split_answer, spdu_part, other_part}
 use Rattle.bench.specs.declared.End.TheVariants as end
 use Rattle.bench.specs.Handing.{handed_to, handed_out}
-use Rattle.bench.specs.Shown.{trend_of, bins_of, told_bins}
+use Rattle.bench.specs.Shown.{trend_of, bins_of, told_bins, master_of, told_master, device_of, told_device}
 use Rattle.bench.specs.History.{Compose, BuildResponse, HandOn, Call, SetParameters, ReceiveResponse, ReceiveRequest, Clock, WithoutReading, answer_without_reading, written_without_reading, addressed, answer_of, after, history, addressing, goes_on, extended, since, since_block, MatchesSince, Matches, Arising, block_in, OctetsIn, no_call, one_more, octets_out, Operator, Split, Trend, Bins, ShowMaster, ShowDevice, rules_of, rules_without_reading, result_of, history_by}
 use Rattle.bench.proofs.Answers.{refused_same, left_out, compose_refused, build_refused, split_refused, split_taken, handed-refused}
 use Rattle.bench.proofs.AtPort.{eight, taken_at, taken_at_lem, other_at, others}
 use Rattle.bench.proofs.Regulars.{regular_turn}
 use Rattle.bench.proofs.History.{matches}
 use Rattle.bench.proofs.Release.{matching, passed_first, acknowledged, signals_hold, cycles_first, after_error}
-use Rattle.bench.proofs.Showing.{NoneShown, refused_shown, refused_trend, bins_shown, bins_many, total_shown, frozen_shown, trend_answer, trend_shown}
+use Rattle.bench.proofs.Showing.{NoneShown, refused_shown, refused_trend, refused_master, refused_device, bins_shown, bins_many, total_shown, frozen_shown, trend_answer, trend_shown}
 use Rattle.bench.proofs.Silent.{NothingSaid, Says, refused_says}
 use Rattle.bench.proofs.Sent as sends
 use Rattle.bench.proofs.Sent.{sent}
@@ -218,6 +218,14 @@ refused_shown_met = refused_shown 9 port refl
 pub refused_trend_met : point_in (trend_of 9 port) ≡ record { mean = zero; lowest = zero; highest = zero }
 unfolding trend_of
 refused_trend_met = refused_trend 9 port refl
+
+pub refused_master_met : told_master (master_of 9 port) ≡ table38.first_master 0
+unfolding master_of
+refused_master_met = refused_master 9 port refl
+
+pub refused_device_met : told_device (device_of 9 port) ≡ table40.first_device 0
+unfolding device_of
+refused_device_met = refused_device 9 port refl
 
 pub frozen_shown_met : (told_bins (bins_of 1 port)).frozen ≡ leb limit (length (samples 1000 100 past))
 frozen_shown_met = frozen_shown 1 refl port 1000 (params_of good) past matches_met

@@ -30,17 +30,13 @@ known_range q e =
 pub index_below : (port : ℕ) → index_of port < 8
 index_below port = go (outside 1 8 port) refl
   where
-    go : (o : Bool) → outside 1 8 port ≡ o → cond o 0 (port - 1) < 8
+    go : (o : Bool) → outside 1 8 port ≡ o → unwrap_or (cond o None (Some (port - 1))) 0 < 8
     go true e = omega arith
     go false e = let r = known_range port e in omega (arith, r.0, r.1)
 
 module _ (port : ℕ) {place : Option ℕ} (here : place ≡ place_of port) where
   pub place_index : unwrap_or place 0 ≡ index_of port
-  place_index = rw here (go (outside 1 8 port))
-    where
-      go : (o : Bool) → unwrap_or (cond o None (Some (port - 1))) 0 ≡ cond o 0 (port - 1)
-      go true = refl
-      go false = refl
+  place_index = ap (λ (place : Option ℕ). unwrap_or place 0) here
 
   pub place_outside : {o : Bool} → is_some place ≡ not o → o ≡ outside 1 8 port
   place_outside {o} e = go o (outside 1 8 port) (ap is_some (sym here) ∙ e)

@@ -38,6 +38,7 @@ turned s l at releases o d =
     let c = tallied_by l.totals w t in
     record {
       live = record { totals = unwrap_or c l.totals; device = d; master = o.master; unused = l.unused };
+      elapsed = elapsed_of at o.sent;
       bin = option_and c (option_map (bin_of w) t);
       master = o.mark;
       device = mark_of false d.released;

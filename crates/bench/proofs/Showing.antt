@@ -16,7 +16,11 @@ use Rattle.block.specs.declared.Params.{Params}
 use Rattle.scl.specs.Happenings.{is_fresh}
 use Rattle.scl.specs.declared.Happening.{Happening}
 use Rattle.scl.proofs.Cases.{cond_both}
+use Rattle.fs_master.specs.declared.Master.{Master}
+use Rattle.fs_master.specs.Table38.{first_master}
 use Rattle.fs_master.specs.History.{master_after}
+use Rattle.fs_device.specs.declared.Device.{Device}
+use Rattle.fs_device.specs.Table40.{first_device}
 use Rattle.fs_device.specs.History.{device_after}
 use Rattle.histogram.specs.declared.Histogram.{Histogram}
 use Rattle.histogram.specs.declared.TrendPoint.{TrendPoint}
@@ -81,6 +85,23 @@ refused_trend q p = go (trend_of q p)
   where
     go : (t : Result TrendPoint Refusal) → is_taken t ≡ false → point_in t ≡ record { mean = zero; lowest = zero; highest = zero }
     go (Ok t) e = absurd (true≢false e)
+    go (Err r) e = refl
+
+-- of a refused call: each end in its first state, whatever the port holds
+pub refused_master : (q : ℕ) (p : Port) → is_taken (master_of q p) ≡ false → told_master (master_of q p) ≡ first_master 0
+unfolding new_port
+refused_master q p = go (master_of q p)
+  where
+    go : (m : Result Master Refusal) → is_taken m ≡ false → told_master m ≡ first_master 0
+    go (Ok m) e = absurd (true≢false e)
+    go (Err r) e = refl
+
+pub refused_device : (q : ℕ) (p : Port) → is_taken (device_of q p) ≡ false → told_device (device_of q p) ≡ first_device 0
+unfolding new_port
+refused_device q p = go (device_of q p)
+  where
+    go : (d : Result Device Refusal) → is_taken d ≡ false → told_device d ≡ first_device 0
+    go (Ok d) e = absurd (true≢false e)
     go (Err r) e = refl
 
 module _ (q : ℕ) (known : outside 1 8 q ≡ false) (p : Port) (at : ℕ) (params : Params) (past : List Happening) (s : MatchesSince p at params past) where

@@ -103,7 +103,7 @@ place_of port = cond (outside 1 8 port) None (Some (port - 1))
 
 -- its index; where no port has the number the first one's, which is then not looked at
 abbrev pub index_of : ℕ → ℕ
-index_of port = cond (outside 1 8 port) 0 (port - 1)
+index_of port = unwrap_or (place_of port) 0
 
 -- the port of a number; of a number that no port has, a port that never ran
 unfoldable pub port_at : Bench → ℕ → Port
@@ -122,6 +122,7 @@ turn_of s l h =
     let c = tallied_by l.totals w m.t in
     record {
       live = record { totals = unwrap_or c l.totals; device = d.device; master = m.master; unused = l.unused };
+      elapsed = m.elapsed;
       bin = option_and c (option_map (bin_of w) m.t);
       master = m.mark;
       device = d.mark;

@@ -43,6 +43,7 @@ regular_response s l at f =
     let m = t4 (admitted l.master f) at f.SDset in
     record {
       live = record { totals = unwrap_or c l.totals; device = l.device; master = m; unused = l.unused };
+      elapsed = elapsed_at l at;
       bin = option_map (λ _. bin_of w (elapsed_at l at)) c;
       master = mark_of true m.released;
       device = mark_of false l.device.released;
@@ -50,7 +51,7 @@ regular_response s l at f =
 
 -- nothing changes
 abbrev pub still : Live → Turned
-still l = record { live = l; bin = None; master = Nothing; device = Nothing }
+still l = record { live = l; elapsed = 0; bin = None; master = Nothing; device = Nothing }
 
 unfoldable pub regular_of : Setting → Live → Happening → Turned
 regular_of s l (happening.Response at f) = regular_response s l at f

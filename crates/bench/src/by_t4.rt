@@ -43,6 +43,7 @@ fn regular_response(setting: Setting, live: Live, at: u32, f: Response) -> Turne
             master,
             ..live
         },
+        elapsed: t,
         bin: counted.map(|_| histogram::bin(w, t)),
         master: scl::mark_of(true, master.released),
         device: scl::mark_of(false, live.device.released),
@@ -54,6 +55,7 @@ fn still(live: Live) -> Turned
 {
     Turned {
         live,
+        elapsed: 0,
         bin: None,
         master: Mark::Nothing,
         device: Mark::Nothing,

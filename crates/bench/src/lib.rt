@@ -82,10 +82,12 @@ pub enum Act {
     Happens(Happening),
 }
 
-// What a happening makes of a port: what it changes, the bin that it raises, if any, and what each end hands on.
+// What a happening makes of a port: what it changes, the time in ms since the count that the FS-Master awaits was first sent, the bin that it raises, if
+// any, and what each end hands on.
 #[derive(Clone, Copy)]
 pub struct Turned {
     pub live: Live,
+    pub elapsed: u32,
     pub bin: Option<usize>,
     pub master: Mark,
     pub device: Mark,

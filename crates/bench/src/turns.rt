@@ -57,6 +57,7 @@ pub fn turn(setting: Setting, live: Live, happening: Happening) -> Turned
             master: of_master.master,
             ..live
         },
+        elapsed: of_master.elapsed,
         bin: counted.and(of_master.t.map(|t| histogram::bin(w, t))),
         master: of_master.mark,
         device: of_device.mark,

@@ -11,16 +11,18 @@ use Rattle.histogram.specs.declared.Totals.{Totals}
 use Rattle.histogram.specs.Counted.{counted_of, totalled_of}
 use Rattle.samples.specs.declared.MasterTurn.{MasterTurn}
 
--- A happening at the FS-Master. `t`: where a response has come that led to a release, the ms after the count that it answers was first sent, which is
--- the sample's start once the watchdog has been looked at (R17).
+-- A happening at the FS-Master. `elapsed`: the ms since the count that is awaited was first sent, which is the sample's start once the watchdog has been
+-- looked at (R17). `t`: those, where a response has come that led to a release.
 abbrev pub master_turn_of : Master → ℕ → Happening → MasterTurn
 master_turn_of m w h =
     let o = masters.step_of m w h in
     let releases = is_fresh o.mark in
+    let t = elapsed_of (reading_of h) o.sent in
     record {
       master = o.master;
       mark = o.mark;
-      t = then_some releases (elapsed_of (reading_of h) o.sent);
+      elapsed = t;
+      t = then_some releases t;
     }
 
 -- "with elapsed t at most W"; 01's whole sentence is `samples`

@@ -8,12 +8,13 @@ use fs_master::Master;
 use histogram::Totals;
 use scl::{Happening, Mark};
 
-// What a happening does at an FS-Master. `t`: where a response has come that led to a release, the time in ms since the count that it answers was
-// first sent.
+// What a happening does at an FS-Master. `elapsed`: the time in ms since the count that is awaited was first sent, once the watchdog has been looked at.
+// `t`: that time, where a response has come that led to a release.
 #[derive(Clone, Copy)]
 pub struct MasterTurn {
     pub master: Master,
     pub mark: Mark,
+    pub elapsed: u32,
     pub t: Option<u32>,
 }
 
@@ -27,6 +28,7 @@ pub fn turn_master(m: Master, w: u16, happening: Happening) -> MasterTurn
     MasterTurn {
         master: after.master,
         mark: after.mark,
+        elapsed: t,
         t: releases.then_some(t),
     }
 }
