@@ -86,8 +86,9 @@ fn acted(b: Bench, i: usize, p: Port, at: u32, asked: Result<Act, Refusal>) -> B
     }
 }
 
-// The same of a call that has no block, so that the last arm is never entered. It stands apart for the compiler, which puts it in line at each of
-// these calls; with the block's arm it would be called, and the bench copied on the way in and out.
+// The same of a call that has no block, so that the last arm is never entered. It stands apart for the compiler, which is told to put it in line
+// at each of these calls: called, it would have the bench copied on the way in and out.
+#[inline(always)]
 #[tactic(auto, unfolding(crate::specs::Calls::done))]
 fn happened(b: Bench, i: usize, p: Port, asked: Result<Act, Refusal>) -> BenchAfter
     requires place { i < 8 }
@@ -116,7 +117,8 @@ pub fn set_parameters(engine: Engine, b: Bench, port: u8, at: u32, octets: &[u8]
     acted(b, i, b.ports[i], at, act)
 }
 
-// An SPDU received at an end, with as many zeros as it has process octets.
+// An SPDU received at an end, with as many zeros as it has process octets. Inlined: a call would copy the bench on the way in and out.
+#[inline(always)]
 fn receive(
     engine: Engine,
     b: Bench,

@@ -73,21 +73,30 @@ pub fn device_of(b: Bench, port: u8) -> Result<Device, Refusal>
 }
 
 // What C is told, also of a refusal: then what a port that never ran shows. This and the next two: one for each struct that C has (of a trend point:
-// `histogram::point_told`).
+// `histogram::point_told`). By match, as `unwrap_or` would make a new port in each call.
 pub fn bins_told(told: Result<Bins, Refusal>) -> Bins
     ensures { result ≡ shown.told_bins told }
 {
-    told.unwrap_or(bins_at(new_port()))
+    match told {
+        Ok(bins) => bins,
+        Err(_) => bins_at(new_port()),
+    }
 }
 
 pub fn master_told(told: Result<Master, Refusal>) -> Master
     ensures { result ≡ shown.told_master told }
 {
-    told.unwrap_or(new_port().live.master)
+    match told {
+        Ok(master) => master,
+        Err(_) => new_port().live.master,
+    }
 }
 
 pub fn device_told(told: Result<Device, Refusal>) -> Device
     ensures { result ≡ shown.told_device told }
 {
-    told.unwrap_or(new_port().live.device)
+    match told {
+        Ok(device) => device,
+        Err(_) => new_port().live.device,
+    }
 }

@@ -28,14 +28,13 @@ impl<const ROOM: usize> Model for Line<ROOM> {
     ghost inverse = { λ text. record { octets = line_of ROOM text; length = prelude.length text } };
 
     ghost inverse_ok = { λ l h i.
-      let text : List ℕ = take l.length l.octets in
-      let room : ℕ = ROOM - prelude.length text in
-      let zero : ℕ = 0 in
-      record {
-        octets = sym h.1 i;
-        length = length-take-le l.length l.octets (omega (arith, h.0, ap prelude.length h.1, length-append text (replicate room zero), length-replicate room zero)) i;
-      }
-    };
+        let text : List ℕ = take l.length l.octets in
+        let room : ℕ = ROOM - prelude.length text in
+        let zero : ℕ = 0 in
+        record {
+          octets = sym h.1 i;
+          length = length-take-le l.length l.octets (omega (arith, h.0, ap prelude.length h.1, length-append text (replicate room zero), length-replicate room zero)) i;
+        } };
 }
 
 impl<const ROOM: usize> Line<ROOM> {
