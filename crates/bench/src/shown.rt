@@ -15,7 +15,8 @@ use fs_device::Device;
 use fs_master::Master;
 use histogram::{Histogram, TrendPoint};
 
-// 8 and 9: the port of a number, where it runs.
+// 8 and 9: the port of a number, where it runs. Inlined, so that the port is not copied for the part of it that is shown.
+#[inline(always)]
 pub(crate) fn running_at(b: Bench, port: u8) -> Result<Port, Refusal>
     ensures { result ≡ with_value (answer_by Taken (call_rules port (port_at b port).setting)) (port_at b port) }
 {
