@@ -1,6 +1,7 @@
 // A run over chunks of octets.
-ghost use Rattle.std.specs.Prelude.{◌≡◌, ℕ, ◌+◌, ◌<◌, ◌≤◌, Some, Err, length};
+ghost use Rattle.std.specs.Prelude.{◌≡◌, ℕ, ◌+◌, ◌<◌, ◌≤◌, Some, Err, length, drop};
 ghost use Rattle.io.specs.Counts.{IsPrefixLen};
+ghost use Rattle.record.specs.Format.{form};
 ghost use Rattle.session.specs.Run as runs;
 ghost use Rattle.session.specs.Text as lines;
 ghost use Rattle.bench.specs.Columns as columns;
@@ -11,7 +12,7 @@ use crate::{Fed, State};
 use answer::Refusal;
 use bench::{Act, BIN_COUNT, PORT_COUNT};
 use lines::LINE_ROOM;
-use record::read_record;
+use record::{NoRecord, read_record};
 use signature::{Engine, Signing};
 
 // Room for what is printed at the end.
@@ -36,6 +37,13 @@ fn say(out: &mut [u8], at: usize, number: u64, refusal: Refusal) -> usize
 {
     let line = lines::refusal_line(number, refusal.number());
     put(out, at, line.as_octets())
+}
+
+// Why reading stops at a position; none where a whole record is there.
+fn stop_at(s: &[u8], at: usize) -> Option<NoRecord>
+    ensures { result ≡ runs.stop_of (form (drop at s.now)) }
+{
+    read_record(s, at).err()
 }
 
 // One more in the bin that a turn of the port at k raises, if it raises one.
@@ -118,7 +126,7 @@ pub fn feed(engine: Engine, st: State, s: &[u8], out: &mut [u8]) -> Fed
         state,
         used: at,
         written,
-        stop: read_record(s, at).err(),
+        stop: stop_at(s, at),
     }
 }
 

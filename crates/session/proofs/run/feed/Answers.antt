@@ -15,7 +15,7 @@ use Rattle.record.specs.declared.Record.{Record}
 use Rattle.record.specs.Format.{Form, nothing, part, bad, whole, form, record_by}
 use Rattle.session.specs.Run.{is_whole, refused_after}
 use Rattle.lines.proofs.Written.{none}
-use Rattle.session.proofs.Link.{stopped, stop_read}
+use Rattle.session.proofs.Link.{stopped}
 use Rattle.session.proofs.Going.{starts, goes_on}
 use Rattle.session.proofs.run.feed.Goals as goal
 use Rattle.session.proofs.run.feed.Goals.{else-loop-left-test, then-loop-left-test+in_default}
@@ -109,5 +109,5 @@ returns c =
       | then-loop-left-test+in_default w ↦ inr (not_whole (form s) s l.at (λ r h. w.in_default.not-Ok r (w.read_record.ensures ∙ h)))
     ] in
     let p = stopped l.invariant.link refl l.invariant.within (omega (arith, l.invariant.kept, l.invariant.fits)) e in
-    rw (c.packed.ensures, c.saturating_add.ensures, c.err.ensures.value ∙ stop_read (form s) s l.at c.read_record-2.ensures)
+    rw (c.packed.ensures, c.saturating_add.ensures, c.stop_at.ensures)
     (record { value = p.0; out_after = p.1.0; used_in_bounds = p.1.1.0; written_in_bounds = p.1.1.1 })
