@@ -82,8 +82,8 @@ pub enum Act {
     Happens(Happening),
 }
 
-// What a happening makes of a port: what it changes, the time in ms since the count that the FS-Master awaits was first sent, the bin that it raises, if
-// any, and what each end hands on.
+// What a happening makes of a port: what it changes, the time in ms since the count that the FS-Master awaits was first sent (0 where `regular` changes
+// nothing), the bin that it raises, if any, and what each end hands on.
 #[derive(Clone, Copy)]
 pub struct Turned {
     pub live: Live,

@@ -33,7 +33,8 @@ impl<const ROOM: usize> Model for Line<ROOM> {
         let zero : ℕ = 0 in
         record {
           octets = sym h.1 i;
-          length = length-take-le l.length l.octets (omega (arith, h.0, ap prelude.length h.1, length-append text (replicate room zero), length-replicate room zero)) i;
+          length = length-take-le l.length l.octets
+              (omega (arith, h.0, ap prelude.length h.1, length-append text (replicate room zero), length-replicate room zero)) i;
         } };
 }
 
