@@ -1,7 +1,12 @@
 -- Each line that is printed, in ASCII: computed, 01's own examples where it has them. Assumes nothing.
 use mathlib.Core.Path.{◌≡◌, refl}
 use mathlib.Core.List.{[], ◌∷◌}
-use Rattle.lines.specs.Text.{numeral, refusal_line, summary_line, ends_text, port_text, port_line}
+use Rattle.lines.specs.declared.TheConstants.{LINE_ROOM, PORT_ROOM}
+use Rattle.lines.specs.Text.{line_room, port_room, numeral, refusal_line, summary_line, ends_text, port_text, port_line}
+
+-- the rooms that the lines have in code
+pub rooms : (LINE_ROOM ≡ line_room) × (PORT_ROOM ≡ port_room)
+rooms = (refl, refl)
 
 -- "r 1 code 2", "r 1 code 13"
 pub each_refusal :
